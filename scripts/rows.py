@@ -374,7 +374,7 @@ IN_SCRIPTS = "a script of `nameserver`, `crates/nameserver/data/*.script`"
 
 # The rows that are runs of the cases of check/program now, by file and operation, as they were, and how many of them go by a clause.
 CASED = """
-rows_cache aliases: list 40
+rows_cache aliases: list 46
 rows_cache cache: cache 77-29
 rows_cache chains: zone 41-7
 rows_cache zones: zone 10-1, resolver 22-15
@@ -447,6 +447,8 @@ IN_LOOKUPS = "a row of `check/resolver`, which runs `lookup`"
 
 # The rows that are rows of check/c.d now.
 STEPPED = """
+rows_cache aliases: list 4
+rows_cache clients: list 36
 rows_net schedules: schedule 53
 rows_net steps: steps 11
 """

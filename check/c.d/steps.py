@@ -1,13 +1,20 @@
 """Lookups of the library, step by step, under a clock that the rows have.
 
-usage: steps.py FILE..
+usage: steps.py LIBRARY [FILE..]
 
-Each row of the files is `OPERATION INPUT > ANSWER`; `steps` and `schedule` below say what their inputs and answers are. The status is 0
-if all rows hold, else 1.
+LIBRARY is librumstrait.so. Each row of check/c.d/FILE.rows is tried, or of all files. A row is `OPERATION INPUT > ANSWER`; `steps`,
+`schedule` and `finds` below say what their inputs and answers are. The status is 0 if all rows hold, else 1.
 """
 import ctypes
+import os
 import sys
 from pathlib import Path
+
+ROWS = Path(__file__).resolve().parent
+ROOT = ROWS.parent.parent
+sys.path[:0] = [str(it) for it in (ROOT / "check" / "resolver.d", ROOT / "check" / "server.d", ROOT / "clients" / "python")]
+sys.dont_write_bytecode = True
+os.environ["RUMSTRAIT_LIBRARY"] = sys.argv[1]
 
 from reply_texts import name_bytes, question_of, reply_bytes
 from report import Report
@@ -107,7 +114,7 @@ class Lookups:
         """The records that were found, or why there are none."""
         buffer, size = ctypes.create_string_buffer(ROOM), ctypes.c_size_t()
         code = LIBRARY.rumstrait_lookup_records(self.handle, self.lookup, buffer, ROOM, ctypes.byref(size))
-        return Refusal(code).name.lower().replace("_", "-") if code else ", ".join(buffer.raw[: size.value].decode().splitlines())
+        return Refusal(code).name.lower().replace("_", "-") if code else ", ".join(buffer.raw[: size.value].decode().splitlines()) or "-"
 
     def state(self):
         """What the lookup waits for, or what it found."""
@@ -190,15 +197,50 @@ def play(lookups, events, clock, sent):
     return clock, dropped
 
 
-def main(words):
+def finds(given):
+    """`REPLIES || MOMENT QUESTION || ..`: what a lookup of each question finds at a moment in seconds, one after another, with the questions
+    that it asks; and how many replies are left.
+
+    `; ` parts the replies: `quiet` and `failure` are none, and any other one is a text of `reply_bytes`. `-` is no reply.
+    """
+    replies, *steps = given.split(" || ")
+    replies, found = [] if replies == "-" else replies.split("; "), []
+    with Lookups("attempts:1", "1", 100) as lookups:
+        for step in steps:
+            moment, question = step.split(" ", 1)
+            lookups.begin(question, int(moment) * 1000)
+            asked = answered(lookups, replies, int(moment) * 1000)
+            found.append(f"{lookups.found()} | {', '.join(asked) or '-'}")
+    return " / ".join([*found, f"{len(replies)} left"])
+
+
+def answered(lookups, replies, clock):
+    """Gives a lookup its replies, and returns the questions that it asks."""
+    asked = []
+    while lookups.wait is not None:
+        asked.append(question_of(lookups.message).text)
+        text = replies.pop(0) if replies else "quiet"
+        if text == "quiet":
+            lookups.time_out(lookups.wait.deadline)
+        elif text == "failure":
+            lookups.fail(clock)
+        else:
+            lookups.receive(reply_bytes(lookups.message, text), clock)
+    return asked
+
+
+OPERATIONS = {it.__name__: it for it in (steps, schedule, finds)}
+
+
+def main(names):
     report = Report()
-    for word in words:
+    for name in names or sorted(it.stem for it in ROWS.glob("*.rows")):
         report.begin()
-        for row in rows_of(Path(word)):
-            report.check(f"{row.place} {row.input}", row.answer, {"steps": steps, "schedule": schedule}[row.operation](row.input))
-        report.end(Path(word).name)
+        for row in rows_of(ROWS / f"{name}.rows"):
+            report.check(f"{row.place} {row.input}", row.answer, OPERATIONS[row.operation](row.input))
+        report.end(name)
     return report.status()
 
 
 if __name__ == "__main__":
-    sys.exit(main(sys.argv[1:]))
+    sys.exit(main(sys.argv[2:]))
