@@ -265,6 +265,9 @@ CLAUSES = {
         "cache": "`ResponseCache::insert`, `insert_message`, `insert_answer`, `get`, `clear_query` and `clamp_positive_ttls`, over `storing`, "
         "`current` and `clamped`, which the others try: replies that no lookup stores, a current entry that is replaced, another class, a type "
         "by its number, name servers with their addresses, and the limit of `with_stamp_limit`, which changes nothing",
+        "ranges": "`TtlConfig::positive_response_ttl_bounds` and `negative_response_ttl_bounds`, over `bounds_of`, `positive_range` and "
+        "`negative_range`, by which `list` with bounds keeps replies; and `TtlConfig::from_opts`, over `checked_config`",
+        "equal": "the `eq` of `TtlConfig`, by the law `equal_configs_have_the_same_bounds`",
         "zone": "`CachingClient::lookup`, clause `lookup`: preserved aliases are what `list` tries",
         "resolver": "`Resolver::lookup` and `Resolver::clear_lookup_cache`: search lists, bounds and preserved aliases are what "
         "`names`, `ranges` and `list` try",
@@ -272,10 +275,12 @@ CLAUSES = {
     "rows_resolver": {
         "special": "`special_answer`, clause `answer`: another class is what `list` tries, and another code for a type is its "
         "number",
-        "addresses": "`lookup_ip_names`: `Joins` and `is_final` have want of memory, a lookup without answers is not final and is joined, "
-        "`Ipv4AndIpv6` is `Both` with the types of the other order, and `EndsWith` is what a literal address of `lookup` tries",
-        "lookup-names": "`lookup_names`, over `is_final` and `no_names`: want of memory, lookups without answers, and no names",
-        "lookup-names-with-hosts": "`lookup_names_with_hosts`, over the same",
+        "addresses": "`lookup_ip_names`, over `EndsWith`, which a literal address of `lookup` tries, `no_addresses`, and hosts by "
+        "`Ipv4AndIpv6`, which `names` of `rows_layers` tries without hosts",
+        "lookup-names": "`lookup_names`, over `no_names`, which is stated",
+        "lookup-names-with-hosts": "`lookup_names_with_hosts`, over `Attempts`, which `names` of `rows_layers` tries: want of memory, and no names",
+        "group": "`google`, `cloudflare` and `quad9`, clause `ips`, which states the addresses, and `ServerGroup::udp`, `tcp` and `udp_and_tcp`, "
+        "over `server_of`, which resolv.conf files try",
         "config": "`ResolverConfig::from_parts`, `into_parts`, `set_domain`, `add_search` and `add_name_server`, each of which sets or "
         "adds to a field",
         "hosts": "`Hosts::lookup_static_host`, clause `found`: `static_lookup` does not look at the class",
@@ -303,9 +308,9 @@ CLAUSES = {
         "negative": "`NetError::into_no_records`, over `DnsError::from_response`; the texts are those of `error-text`",
     },
     "rows_net": {
-        "schedule": "`NameServerPool`, whose `gives` is `Asks`, over the servers of `ServerList::from_config`: a server with one protocol, "
-        "one whose negative answers are not trusted, and streams alone, which `check/network` tries at servers",
-        "update": "`NameServerPool::send_update`, over the same",
+        "schedule": "`NameServerPool`, whose `gives` is `Asks`, over definitions that the others try: streams alone, and a server without an "
+        "address for them",
+        "update": "`NameServerPool::send_update`, over the same: a server whose negative answers are not trusted",
     },
 }
 
@@ -323,7 +328,7 @@ LATER = {
     "rows_differences": {"*": REPLAY},
     "rows_journal": {"*": REPLAY + ", whose journal can be torn"},
     "rows_zone": {"*": REPLAY},
-    "rows_cache": {"*": SCRIPT, "bounds": VALUES, "ranges": VALUES, "equal": VALUES},
+    "rows_cache": {"*": SCRIPT, "bounds": VALUES},
     "rows_stub": {"*": SCRIPT}
     | {
         it: VALUES
@@ -377,6 +382,7 @@ CASED = """
 rows_cache aliases: list 46
 rows_cache cache: cache 77-29
 rows_cache chains: zone 41-7
+rows_cache ttl: ranges 20-20, equal 15-15
 rows_cache zones: zone 10-1, resolver 22-15
 rows_net update_text: line 22, update-text 2
 rows_resolver outcomes: outcome 49-19, negative 6-6
@@ -430,18 +436,18 @@ IN_CHECKS = "a case of `check/zonecheck`"
 # The rows that are rows of check/resolver.d now, by file and operation, as they were, and how many of them go by a clause.
 RESOLVED = """
 rows_net resolv_conf: conf 65, conf-bytes 1, attempts 12
-rows_net schedules: schedule 14-11, update 8-2
+rows_net schedules: schedule 6-2, update 8-1
 rows_net update_text: update-text 32, update-text-all 6
-rows_resolver addresses: addresses 22-14
-rows_resolver attempts: lookup-names 16-5, lookup-names-with-hosts 10-2
-rows_resolver config: config 11-11
+rows_resolver addresses: addresses 17-9
+rows_resolver attempts: lookup-names 12-1, lookup-names-with-hosts 10-2
+rows_resolver config: group 4-4, config 12-12
 rows_resolver hosts: hosts 36-1, hosts-bytes 8-3, insert 10-10
 rows_resolver lookups: from-rdata 4-4, with-max-ttl 2-2, with-deadline 1-1, append 4-4, copy 1-1, extend 1-1, lookup-ip 2-2,
     message-of 1-1
 rows_resolver names: names 52-1
 rows_resolver requests: request 13-11, handle 10-10
 rows_resolver resolver: resolver 64-10, set-hosts 5-5, requests 6-3, build 6-6
-rows_resolver strategies: addresses 98-48
+rows_resolver strategies: addresses 50
 """
 IN_LOOKUPS = "a row of `check/resolver`, which runs `lookup`"
 

@@ -14,6 +14,9 @@ ROWS = Path(__file__).resolve().parent
 ROOT = ROWS.parent.parent
 sys.path[:0] = [str(it) for it in (ROOT / "check" / "resolver.d", ROOT / "check" / "server.d", ROOT / "clients" / "python")]
 sys.dont_write_bytecode = True
+if len(sys.argv) < 2:
+    sys.exit(__doc__)
+# The package loads the library when it is imported.
 os.environ["RUMSTRAIT_LIBRARY"] = sys.argv[1]
 
 from reply_texts import name_bytes, question_of, reply_bytes

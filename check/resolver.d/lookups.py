@@ -73,12 +73,15 @@ def lookup(program: Program, given: str) -> str:
 def servers(program: Program, given: str) -> str:
     """`ARGUMENTS || REPLIES || ..`: what is found with several servers, each with its replies, and which of them were asked, from 1 on.
 
-    ` & ` parts the datagrams of a reply, each of which may begin with `wrong-id` or `wrong-opcode`. Behind the last reply there is none.
+    With `--tcp` they are servers over streams, and their numbers end in `/tcp`. ` & ` parts the datagrams of a reply, each of which may
+    begin with `wrong-id` or `wrong-opcode`. Behind the last reply there is none.
     """
     words, *lists = given.split(" || ")
     asked: List[str] = []
+    is_stream = "--tcp" in words.split()
     with contextlib.ExitStack() as stack:
-        places = [stack.enter_context(Scripted(noted(asked, str(number), text))).place for number, text in enumerate(lists, 1)]
+        numbered = [(f"{number}/tcp" if is_stream else str(number), text) for number, text in enumerate(lists, 1)]
+        places = [stack.enter_context(Scripted(noted(asked, *it), is_stream)).place for it in numbered]
         given_words = [*shlex.split(words), *(it for place in places for it in ("--server", place))]
         seconds = SHORT_SECONDS if "-" in lists else SECONDS
         done = program.run([*given_words, "--timeout", seconds * program.slowness])

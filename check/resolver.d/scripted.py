@@ -14,15 +14,17 @@ Replies = Callable[[bytes], List[bytes]]
 
 
 class Scripted:
-    """A server over datagrams on a loopback address, inside a `with` block."""
+    """A server over datagrams or streams on a loopback address, inside a `with` block."""
 
-    def __init__(self, replies: Replies):
-        self.replies, self.requests = replies, []
+    def __init__(self, replies: Replies, is_stream: bool = False):
+        self.replies, self.is_stream, self.requests = replies, is_stream, []
 
     def __enter__(self) -> "Scripted":
-        self.socket = socket.socket(socket.AF_INET, socket.SOCK_DGRAM)
+        self.socket = socket.socket(socket.AF_INET, socket.SOCK_STREAM if self.is_stream else socket.SOCK_DGRAM)
         self.socket.bind(("127.0.0.1", 0))
         self.socket.settimeout(EACH)
+        if self.is_stream:
+            self.socket.listen()
         self.is_closed = False
         self.thread = threading.Thread(target=self.serve, daemon=True)
         self.thread.start()
@@ -41,10 +43,23 @@ class Scripted:
     def serve(self) -> None:
         while not self.is_closed:
             with contextlib.suppress(socket.timeout):
-                request, peer = self.socket.recvfrom(65535)
-                self.requests.append(request)
-                for reply in self.replies(request):
-                    self.socket.sendto(reply, peer)
+                self.serve_stream() if self.is_stream else self.serve_datagram()
+
+    def serve_datagram(self) -> None:
+        """Replies to a datagram."""
+        request, peer = self.socket.recvfrom(65535)
+        self.requests.append(request)
+        for reply in self.replies(request):
+            self.socket.sendto(reply, peer)
+
+    def serve_stream(self) -> None:
+        """Replies to the message of a connection (RFC 1035 section 4.2.2)."""
+        connection, _ = self.socket.accept()
+        with connection, connection.makefile("rb") as incoming:
+            request = incoming.read(int.from_bytes(incoming.read(2), "big"))
+            self.requests.append(request)
+            for reply in self.replies(request):
+                connection.sendall(len(reply).to_bytes(2, "big") + reply)
 
     def questions(self) -> List[Question]:
         """What was asked, in order."""
