@@ -3,6 +3,7 @@ import contextlib
 import itertools
 import os
 import socket
+import struct
 import subprocess
 import tempfile
 import time
@@ -17,6 +18,8 @@ PORT = 53
 NOBODY = ("127.0.0.1", "127.54.0.1")
 # Silent servers have addresses of their own, those of each process apart.
 NETWORK, NUMBERS = f"127.{64 + os.getpid() % 128}.{os.getpid() // 128 % 256}.", itertools.count(1)
+# The option of a socket that tells when a datagram was received (socket(7)), and what it tells.
+SO_TIMESTAMP, TIMEVAL = 29, "@ll"
 # How often it is looked whether a process has ended, in seconds, which is what a wait may be measured too short by.
 EACH = 0.1
 
@@ -109,21 +112,22 @@ def waits(program: Program, given: str) -> str:
     address = f"{NETWORK}{next(NUMBERS)}"
     with contextlib.ExitStack() as stack:
         server = stack.enter_context(socket.socket(socket.AF_INET, socket.SOCK_DGRAM))
+        server.setsockopt(socket.SOL_SOCKET, SO_TIMESTAMP, 1)
         server.bind((address, PORT))
         server.settimeout(EACH)
         file = stack.enter_context(Configured(given.replace("ADDRESS", address)))
         words = [program.path, "x.", "-t", "A", "--resolv-conf", file, "--hosts", os.devnull]
         asking = stack.enter_context(subprocess.Popen(words, stdout=subprocess.DEVNULL, stderr=subprocess.DEVNULL))
-        wait_for(server, asking)
-        start = time.monotonic()
-        wait_for(server, asking)
+        start, end = next_moment(server, asking), next_moment(server, asking)
         asking.kill()
-        return f"{int(time.monotonic() - start + EACH)}"
+        return f"{int(end - start + EACH)}"
 
 
-def wait_for(server: socket.socket, asking: subprocess.Popen) -> None:
-    """Waits until a process asks a server, or ends."""
+def next_moment(server: socket.socket, asking: subprocess.Popen) -> float:
+    """When a process asks a server, by the time at which the system received the datagram, or has ended."""
     while asking.poll() is None:
         with contextlib.suppress(socket.timeout):
-            server.recv(512)
-            return
+            ((_, _, moment), *_) = server.recvmsg(512, socket.CMSG_SPACE(struct.calcsize(TIMEVAL)))[1]
+            seconds, microseconds = struct.unpack(TIMEVAL, moment)
+            return seconds + microseconds / 1e6
+    return time.time()
