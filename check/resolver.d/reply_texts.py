@@ -8,9 +8,10 @@ CLASSES = {"IN": 1, "CH": 3}
 TYPES = {"A": 1, "NS": 2, "CNAME": 5, "SOA": 6, "PTR": 12, "MX": 15, "TXT": 16, "AAAA": 28, "SRV": 33, "CERT": 37, "DS": 43, "RRSIG": 46,
          "NSEC": 47, "TLSA": 52, "SMIMEA": 53, "ANY": 255}  # fmt: skip
 NAMES = {number: name for name, number in TYPES.items()}
-# The numbers of the data of a type, as struct(3) writes them, behind whose names or before them.
+# The numbers of the data of a type, as the module struct writes them: behind the names of SOA records, before those of others.
 NUMBERS = {"SOA": "!5I", "MX": "!H", "SRV": "!3H"}
-RESPONSE, TRUNCATED, RECURSION_DESIRED = 0x8000, 0x0200, 0x0100
+# Bits of the second word of a header: QR, TC and the opcode.
+RESPONSE, TRUNCATED, OPCODE = 0x8000, 0x0200, 0x7800
 
 
 class Question(NamedTuple):
@@ -61,7 +62,7 @@ def reply_bytes(request: bytes, text: str) -> bytes:
     code, *flags = head.split()
     records: List[List[str]] = [[it for it in section.split(", ") if it] for section in sections]
     records += [[]] * (3 - len(records))
-    bits = RESPONSE | int(code) | (TRUNCATED if flags == ["tc"] else 0) | int.from_bytes(request[2:4], "big") & 0x7800
+    bits = RESPONSE | int(code) | (TRUNCATED if flags == ["tc"] else 0) | int.from_bytes(request[2:4], "big") & OPCODE
     question = question_of(request)
     header = request[:2] + struct.pack("!5H", bits, 1, *(len(it) for it in records))
     return header + question.wire + b"".join(record_bytes(it) for section in records for it in section)
