@@ -21,11 +21,14 @@ PROGRAM_SECONDS, TEST_SECONDS = 120, 600
 CASES_SECONDS = 1800
 # The checks with the cases of a program, and the parts of these that need no rights and no packages.
 CASES = {
+    "lookup": (("resolver",),),
     "stub": (("program",), ("sockets", "strangers"), ("refusals", "stub")),
     "zonecheck": (("zonecheck",), ("refusals", "zonecheck")),
     "nameserver": (("nameserver",),),
     "rows": (("refusals", "rows"),),
 }
+# The crate of the library for C, and what `./library` links it with.
+LIBRARY, LINKING = "rumstrait_c", ("ar", "cc", "ld", "objcopy")
 # How many lines of a difference are printed.
 SHOWN = 12
 # What one build takes of memory, in kilobytes.
@@ -76,6 +79,20 @@ def cases(name):
     return "; ".join(said)
 
 
+def library(name):
+    """Builds the library for C, and looks names up by it, step by step."""
+    missing = [it for it in LINKING if not shutil.which(it)]
+    if missing:
+        return f"skipped, since {', '.join(missing)} is not there"
+    with tempfile.TemporaryDirectory() as folder:
+        steps = [sys.executable, ROOT / "check" / "c.d" / "steps.py", Path(folder, "lib", "librumstrait.so")]
+        for words in ([ROOT / "library", folder, "--unproved"], steps):
+            done = run(words, cwd=ROOT, stdin=subprocess.DEVNULL, seconds=CASES_SECONDS)
+            if done.returncode:
+                raise Failure(end_of(done.stdout + done.stderr))
+    return done.stdout.decode().splitlines()[-1]
+
+
 def tests(name):
     """Runs the tests of a crate, before any proof."""
     with tempfile.TemporaryDirectory() as folder:
@@ -120,7 +137,7 @@ def suites(names):
     crates = read_crates(ROOT)
     found = [(stored_run, it) for it in crates if (folder_of(ROOT, it) / "stdout").is_file()]
     found += [(tests, it) for it in crates if test_count(it)]
-    found += [(cases, it) for it in CASES]
+    found += [*((cases, it) for it in CASES), (library, LIBRARY)]
     found.sort(key=lambda it: -len(in_order(crates, [it[1]])))
     return [it for it in found if not names or it[1] in names]
 

@@ -305,6 +305,12 @@ CLAUSES = {
         "`max_ttl_*` and `origin_*`",
     },
     "rows_cache": {
+        "cache": "`ResponseCache::insert`, `insert_message`, `insert_answer`, `get`, `clear_query` and `clamp_positive_ttls`, over `storing`, "
+        "`current` and `clamped`, which the others try: replies that no lookup stores, a current entry that is replaced, another class, a type "
+        "by its number, name servers with their addresses, and the limit of `with_stamp_limit`, which changes nothing",
+        "ranges": "`TtlConfig::positive_response_ttl_bounds` and `negative_response_ttl_bounds`, over `bounds_of`, `positive_range` and "
+        "`negative_range`, by which `list` with bounds keeps replies; and `TtlConfig::from_opts`, over `checked_config`",
+        "equal": "the `eq` of `TtlConfig`, by the law `equal_configs_have_the_same_bounds`",
         "zone": "`CachingClient::lookup`, clause `lookup`: preserved aliases are what `list` tries",
         "resolver": "`Resolver::lookup` and `Resolver::clear_lookup_cache`: search lists, bounds and preserved aliases are what "
         "`names`, `ranges` and `list` try",
@@ -315,6 +321,42 @@ CLAUSES = {
     "rows_resolver": {
         "special": "`special_answer`, clause `answer`: another class is what `list` tries, and another code for a type is its "
         "number",
+        "addresses": "`lookup_ip_names`, over `EndsWith`, which a literal address of `lookup` tries, `no_addresses`, and hosts by "
+        "`Ipv4AndIpv6`, which `names` of `rows_layers` tries without hosts",
+        "lookup-names": "`lookup_names`, over `no_names`, which is stated",
+        "lookup-names-with-hosts": "`lookup_names_with_hosts`, over `Attempts`, which `names` of `rows_layers` tries: want of memory, and no names",
+        "group": "`google`, `cloudflare` and `quad9`, clause `ips`, which states the addresses, and `ServerGroup::udp`, `tcp` and `udp_and_tcp`, "
+        "over `server_of`, which resolv.conf files try",
+        "config": "`ResolverConfig::from_parts`, `into_parts`, `set_domain`, `add_search` and `add_name_server`, each of which sets or "
+        "adds to a field",
+        "hosts": "`Hosts::lookup_static_host`, clause `found`: `static_lookup` does not look at the class",
+        "hosts-bytes": "`Hosts::read_hosts_conf`: a line that is not UTF-8 leaves those before it, as `hosts_not_utf8` of `stub` shows the "
+        "fault",
+        "insert": "`Hosts::insert`, clauses `ok` and `err`, over `with_lookup`, by which `read_hosts_conf` adds the hosts that `hosts` tries",
+        "from-rdata": "`Lookup::from_rdata`, over `lookup_of`, which literal addresses try",
+        "with-max-ttl": "`Lookup::new_with_max_ttl`, over the same",
+        "with-deadline": "`Lookup::new_with_deadline`, over the same",
+        "append": "`Lookup::append`, over `joined`, which the addresses of both types try",
+        "copy": "`Lookup::clone`: a copy is the value",
+        "extend": "`Lookup::extend_authorities` and `extend_additionals`",
+        "lookup-ip": "`LookupIp::iter` and `into_iter`, over the addresses of the answers, which `my_resolver` of `docs/libraries` prints",
+        "message-of": "`Lookup::message`",
+        "names": "`names_to_attempt`, over `attempted_names`: a number of labels above 15, which `lookup` refuses",
+        "request": "`DnsRequest::from_query`, over `request_of` and `request_edns`: RD, DO and payload sizes that `lookup` does not set",
+        "handle": "`DnsHandle::lookup`, over `request_of`, and the `gives` of `ListHandle`",
+        "resolver": "`ResolverBuilder::build`, clauses `supported` and `unsupported`, over `Builds` and `is_unsupported`: whether hosts are used, "
+        "and denied addresses; `Resolver::lookup_ip` of a name; want of memory and `Ipv4AndIpv6` as of `addresses`",
+        "set-hosts": "`Resolver::set_hosts`, over the hosts that the others try",
+        "requests": "`DnsRequest::from_query`, over `request_of`: no RD, and other payload sizes",
+        "build": "`ResolverBuilder::build`, clauses `supported` and `unsupported`",
+        "outcome": "`DnsError::from_response`, clause `outcome`, over the definitions that the others try: responses that a client does not "
+        "take as they are, since it looks for what its question asks",
+        "negative": "`NetError::into_no_records`, over `DnsError::from_response`; the texts are those of `error-text`",
+    },
+    "rows_net": {
+        "schedule": "`NameServerPool`, whose `gives` is `Asks`, over definitions that the others try: streams alone, and a server without an "
+        "address for them",
+        "update": "`NameServerPool::send_update`, over the same: a server whose negative answers are not trusted",
     },
 }
 
@@ -331,16 +373,18 @@ LATER = {
     "rows_differences": {},
     "rows_journal": {},
     "rows_zone": {},
-    "rows_cache": {"*": SCRIPT, "bounds": VALUES, "ranges": VALUES},
+    "rows_cache": {"*": SCRIPT, "bounds": VALUES},
     "rows_stub": {"*": SCRIPT}
-    | {it: VALUES for it in ("link-fault", "script-fault", "zone-fault", "fault", "sound", "sound-data", "sound-record", "fits")},
-    "rows_resolver": {"*": SCRIPT}
-    | {it: VALUES for it in ("names", "special", "config", "hosts", "hosts-bytes", "hosts-fault", "set-hosts", "error-text")},
+    | {
+        it: VALUES
+        for it in ("link-fault", "script-fault", "zone-fault", "fault", "hosts-fault", "error-text", "sound", "sound-data", "sound-record", "fits")
+    },
+    "rows_resolver": {"*": VALUES},
     "rows_check": {},
     "hostile": {},
     "refusals": {},
     "stub_bench": {},
-    "rows_net": {"*": VALUES, "schedule": SCRIPT, "update": SCRIPT, "steps": SCRIPT},
+    "rows_net": {},
 }
 
 
@@ -382,10 +426,13 @@ IN_SCRIPTS = "a script of `nameserver`, `crates/nameserver/data/*.script`"
 
 # The rows that are runs of the cases of check/program now, by file and operation, as they were, and how many of them go by a clause.
 CASED = """
-rows_cache aliases: list 40
+rows_cache aliases: list 46
+rows_cache cache: cache 77-29
 rows_cache chains: zone 41-7
+rows_cache ttl: ranges 20-20, equal 15-15
 rows_cache zones: zone 10-1, resolver 22-15
-rows_resolver outcomes: outcome 30
+rows_net update_text: line 22, update-text 2
+rows_resolver outcomes: outcome 49-19, negative 6-6
 rows_resolver special_names: special 51-11
 rows_stub all_types: play 7, play-with 19
 rows_stub asking: ask 172-51
@@ -455,6 +502,39 @@ rows_tsig replies: reply 31
 rows_tsig requests: verify 2
 """
 IN_NAMED = "a case of `check/nameserver`"
+
+# The rows that are rows of check/resolver.d now, by file and operation, as they were, and how many of them go by a clause.
+RESOLVED = """
+rows_net resolv_conf: conf 65, conf-bytes 1, attempts 12
+rows_net schedules: schedule 6-2, update 8-1
+rows_net update_text: update-text 32, update-text-all 6
+rows_resolver addresses: addresses 17-9
+rows_resolver attempts: lookup-names 12-1, lookup-names-with-hosts 10-2
+rows_resolver config: group 4-4, config 12-12
+rows_resolver hosts: hosts 36-1, hosts-bytes 8-3, insert 10-10
+rows_resolver lookups: from-rdata 4-4, with-max-ttl 2-2, with-deadline 1-1, append 4-4, copy 1-1, extend 1-1, lookup-ip 2-2,
+    message-of 1-1
+rows_resolver names: names 52-1
+rows_resolver requests: request 13-11, handle 10-10
+rows_resolver resolver: resolver 64-10, set-hosts 5-5, requests 6-3, build 6-6
+rows_resolver strategies: addresses 50
+"""
+IN_LOOKUPS = "a row of `check/resolver`, which runs `lookup`"
+
+# The rows that are rows of check/c.d now.
+STEPPED = """
+rows_cache aliases: list 4
+rows_cache clients: list 36
+rows_net schedules: schedule 53
+rows_net steps: steps 11
+"""
+IN_STEPS = "a row of `check/c`, which calls the library for C"
+
+# The rows that a program of docs/libraries has now.
+SHOWN = """
+rows_resolver examples: example 5
+"""
+IN_EXAMPLES = "`my_resolver` of `docs/libraries`, which `check/examples` runs"
 # The rows that gave each reader the inputs close to a good one, or random ones, as they were: `check/hostile` gives them to programs now.
 GIVEN = """
 hostile frames: around 15, random 2
@@ -497,7 +577,21 @@ def tried_files(table):
 
 
 # The rows that are elsewhere now.
-MOVED = tuple(tried_files(it) for it in (SCRIPTED, CASED, CHECKED, NAMED, GIVEN, REFUSED, TIMED))
+MOVED = {
+    place: tried_files(table)
+    for place, table in (
+        (IN_SCRIPTS, SCRIPTED),
+        (IN_CASES, CASED),
+        (IN_CHECKS, CHECKED),
+        (IN_NAMED, NAMED),
+        (IN_LOOKUPS, RESOLVED),
+        (IN_STEPS, STEPPED),
+        (IN_EXAMPLES, SHOWN),
+        (IN_HOSTILE, GIVEN),
+        (IN_REFUSALS, REFUSED),
+        (IN_BENCH, TIMED),
+    )
+}
 
 
 def subject_of(program):
@@ -528,9 +622,9 @@ def all_files():
         yield program, name, [(word, count - gone, gone, 0) for word, count, gone in operations]
     for program in sorted(LATER):
         files = {path.stem: rows_of(path) for path in data_of(program).glob("*.rows")}
-        for name in sorted({*files, *(it for table in MOVED for one, it in table if one == program)}):
+        for name in sorted({*files, *(it for table in MOVED.values() for one, it in table if one == program)}):
             counts, gone = files.get(name, Counter()), Counter()
-            for word, count, without in (it for table in MOVED for it in table.get((program, name), ())):
+            for word, count, without in (it for table in MOVED.values() for it in table.get((program, name), ())):
                 counts[word] += count - without
                 gone[word] += without
             yield program, name, [(word, 0, gone[word], counts[word]) for word in {**counts, **gone}]
@@ -573,7 +667,7 @@ def operation_table(files):
 def place_of(program, word, count):
     """Where the rows of an operation are, or are to be."""
     places, left = [], count
-    for table, place in zip(MOVED, (IN_SCRIPTS, IN_CASES, IN_CHECKS, IN_NAMED, IN_HOSTILE, IN_REFUSALS, IN_BENCH)):
+    for place, table in MOVED.items():
         operations = [it for (one, _), words in table.items() if one == program for it in words]
         moved = sum(it[1] - it[2] for it in operations if it[0] == word)
         if moved == count:
