@@ -138,7 +138,10 @@ fn place_of(
 fn is_there(rt: &HostRuntime, path: &str) -> Result<bool, Ending> {
     match fs::read(rt, path) {
         Ok(_) => Ok(true),
-        Err(error) if error.kind() == io::ErrorKind::OutOfMemory => Err(Ending::Memory),
+        Err(error) if error.kind() == io::ErrorKind::OutOfMemory => {
+            // Reading the file was refused memory.
+            Err(Ending::Memory)
+        }
         Err(_) => Ok(false),
     }
 }
