@@ -1,2 +1,9 @@
+pub mod DeliveryLaws
+pub mod TraceLaws
 mod StreamTableLaws
 pub mod StoreLaws
+pub mod DueLaws
+pub mod NoticeLaws
+pub mod StreamLaws
+pub mod LedgerLaws
+pub mod EarnsWitness

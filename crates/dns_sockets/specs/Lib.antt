@@ -2,4 +2,10 @@ pub mod Stream
 pub mod StreamTable
 pub mod Notices
 pub mod Output
+pub mod Handler
+pub mod World
+pub mod Events
+pub mod Trace
+pub mod Datagrams
 pub mod schedule
+pub mod Ledger

@@ -1,13 +1,21 @@
 //! Datagram sockets.
 
+ghost use Rattle.std.specs.Prelude.{◌≡◌, [], map, List};
+ghost use Rattle.dns_sockets.specs.Datagrams.{AreSent, Delivers, DeliversAll, Gathers, Handles, HandlesIf, IsAddedOrLost, IsTurn, Receives, TakesIf, datagram_at, is_complete, peer_of};
+ghost use Rattle.dns_sockets.specs.Events.{Performs};
+ghost use Rattle.dns_sockets.specs.Handler.{deliveries_if, request_content};
+ghost use Rattle.dns_sockets.specs.Notices.{is_response};
+ghost use Rattle.dns_sockets.specs.Trace.{Traces};
+ghost use Rattle.dns_sockets.specs.schedule.Schedule.{all_due, all_left};
+ghost use Rattle.dns_sockets.specs.World.{AreCopies};
+
 use crate::clock::Milliseconds;
-use crate::handler::{Handler, Notice, Request, Transport};
+use crate::handler::{Handler, Request, Transport};
 use crate::notices::is_response;
 use crate::schedule::Schedule;
+use crate::world::{Receipt, World};
 use dns_faults::Delivery;
-use mio::net::UdpSocket;
 use std::alloc::{AllocError, Global};
-use std::io::ErrorKind;
 use std::net::SocketAddr;
 
 /// How many datagrams of a socket are handled before others have their turn.
@@ -41,20 +49,10 @@ impl Drop for WaitingReply {
 }
 
 /// A datagram socket at an address of the service.
+#[derive(Drop)]
 pub(crate) struct DatagramSocket {
-    socket: UdpSocket,
     /// When datagrams may wait.
     ready_at: Milliseconds,
-}
-
-impl Drop for DatagramSocket {
-    fn drop(self) {
-        let DatagramSocket {
-            socket,
-            ready_at: _ready_at,
-        } = self;
-        drop(socket);
-    }
 }
 
 /// A datagram that has arrived, and waits until those that arrived with it are handled.
@@ -73,141 +71,244 @@ impl Drop for Datagram {
 }
 
 impl DatagramSocket {
-    /// Wraps a socket that is registered.
-    pub(crate) fn new(socket: UdpSocket) -> DatagramSocket {
-        DatagramSocket {
-            socket,
-            ready_at: 0,
-        }
+    /// Creates the state of a socket that was opened.
+    pub(crate) fn new() -> DatagramSocket
+        ensures { result ≡ record { ready_at = 0 } }
+    {
+        DatagramSocket { ready_at: 0 }
     }
 
     /// Takes note that datagrams wait.
-    pub(crate) fn note(&mut self) {
+    pub(crate) fn note(&mut self)
+        ensures { self.new ≡ record { ready_at = 0 } }
+    {
         self.ready_at = 0;
     }
 
     /// Returns when datagrams may wait.
-    pub(crate) fn deadline(&self) -> Milliseconds {
+    pub(crate) fn deadline(&self) -> Milliseconds
+        ensures { result ≡ self.now.ready_at }
+    {
         self.ready_at
     }
 
     /// Handles datagrams that wait, at most 64 of them.
-    pub(crate) fn serve<H: Handler>(
+    pub(crate) fn serve<W: World, H: Handler>(
         &mut self,
+        world: &mut W,
         alloc: Global,
         index: usize,
         handler: &mut H,
         waiting: &mut Schedule<WaitingReply>,
         buffer: &mut [u8],
         now: Milliseconds,
-    ) {
+    )
+        ensures { Traces W.performs H.steps world.old handler.old world.new handler.new
+            (IsTurn index now [] waiting.old [] waiting.new) }
+    {
         if now < self.ready_at {
             return;
         }
         let mut gathered = Vec::new(alloc);
+        self.receive_all(
+            world,
+            &mut gathered,
+            alloc,
+            index,
+            handler,
+            waiting,
+            buffer,
+            now,
+        );
+        handle_all(
+            world,
+            alloc,
+            index,
+            handler,
+            waiting,
+            gathered.as_slice(),
+            now,
+        );
+    }
+
+    /// Receives datagrams that wait, at most 64 of them, and handles those that need not wait for others.
+    fn receive_all<W: World, H: Handler>(
+        &mut self,
+        world: &mut W,
+        gathered: &mut Vec<Datagram>,
+        alloc: Global,
+        index: usize,
+        handler: &mut H,
+        waiting: &mut Schedule<WaitingReply>,
+        buffer: &mut [u8],
+        now: Milliseconds,
+    )
+        ensures { Traces W.performs H.steps world.old handler.old world.new handler.new
+            (IsTurn index now gathered.old.items waiting.old gathered.new.items waiting.new) }
+    {
         for _datagram in 0..MAX_BATCH {
-            if !self.receive(&mut gathered, alloc, handler, buffer, now) {
-                break;
-            }
-            if let Some(last) = gathered.as_slice().last() {
-                if !handler.gathers(last.bytes.as_slice()) {
-                    self.handle(alloc, index, handler, waiting, gathered.as_slice(), now);
-                    gathered.clear();
-                }
+            if !self.step(world, gathered, alloc, index, handler, waiting, buffer, now) {
+                return;
             }
         }
-        self.handle(alloc, index, handler, waiting, gathered.as_slice(), now);
+    }
+
+    /// Adds the next datagram to those that are handled together, and handles these unless others may follow. Returns `false` if none
+    /// waits.
+    fn step<W: World, H: Handler>(
+        &mut self,
+        world: &mut W,
+        gathered: &mut Vec<Datagram>,
+        alloc: Global,
+        index: usize,
+        handler: &mut H,
+        waiting: &mut Schedule<WaitingReply>,
+        buffer: &mut [u8],
+        now: Milliseconds,
+    ) -> bool
+        ensures { Traces W.performs H.steps world.old handler.old world.new handler.new
+            (IsTurn index now gathered.old.items waiting.old gathered.new.items waiting.new) }
+    {
+        let is_received = self.receive(world, gathered, alloc, index, handler, buffer, now);
+        if is_received && is_complete(handler, gathered.as_slice()) {
+            handle_all(
+                world,
+                alloc,
+                index,
+                handler,
+                waiting,
+                gathered.as_slice(),
+                now,
+            );
+            gathered.clear();
+        }
+        is_received
     }
 
     /// Adds the next datagram to those that are handled together, unless it is a response that is expected. Returns `false` if none
     /// waits.
-    fn receive<H: Handler>(
+    fn receive<W: World, H: Handler>(
         &mut self,
+        world: &mut W,
         gathered: &mut Vec<Datagram>,
         alloc: Global,
+        index: usize,
         handler: &mut H,
         buffer: &mut [u8],
         now: Milliseconds,
-    ) -> bool {
-        match self.socket.recv_from(buffer) {
-            Ok((count, peer)) => gather(gathered, alloc, handler, &buffer[..count], peer, now),
-            Err(error) => match error.kind() {
-                ErrorKind::Interrupted => {}
-                ErrorKind::WouldBlock => {
-                    self.ready_at = Milliseconds::MAX;
-                    return false;
-                }
-                // An unreachable peer, say, of which nothing can be told to anyone.
-                _ => self.ready_at = now.saturating_add(RETRY_INTERVAL),
-            },
+    ) -> bool
+        ensures { Traces W.performs H.steps world.old handler.old world.new handler.new
+            (λ acts. Receives index now gathered.old.items acts gathered.new.items) }
+    {
+        match world.receive(index, buffer) {
+            Receipt::Datagram(len, peer) => {
+                gather(gathered, alloc, handler, &buffer[..len], peer, now);
+            }
+            Receipt::Interrupted => {}
+            Receipt::Nothing => {
+                self.ready_at = Milliseconds::MAX;
+                return false;
+            }
+            Receipt::Failed => self.ready_at = now.saturating_add(RETRY_INTERVAL),
         }
         true
     }
+}
 
-    /// Handles datagrams that arrived together, if there are any.
-    fn handle<H: Handler>(
-        &self,
-        alloc: Global,
-        index: usize,
-        handler: &mut H,
-        waiting: &mut Schedule<WaitingReply>,
-        gathered: &[Datagram],
-        now: Milliseconds,
-    ) {
-        // Without memory there is no reply, as if the datagrams had been lost.
-        let Ok(deliveries) = deliveries_of(alloc, handler, gathered, now) else {
+/// Handles datagrams that arrived together, if there are any.
+fn handle_all<W: World, H: Handler>(
+    world: &mut W,
+    alloc: Global,
+    index: usize,
+    handler: &mut H,
+    waiting: &mut Schedule<WaitingReply>,
+    gathered: &[Datagram],
+    now: Milliseconds,
+)
+    ensures { Traces W.performs H.steps world.old handler.old world.new handler.new
+        (λ acts. Handles index now gathered.now waiting.old acts waiting.new) }
+{
+    // Without memory there is no reply, as if the datagrams had been lost.
+    let Ok(deliveries) = deliveries_of(alloc, handler, gathered, now) else {
+        return;
+    };
+    deliver_all(world, index, waiting, deliveries, gathered, now);
+}
+
+/// Sends the replies to datagrams, in order, or puts them among those that wait.
+fn deliver_all<W: World>(
+    world: &mut W,
+    index: usize,
+    waiting: &mut Schedule<WaitingReply>,
+    deliveries: Vec<Delivery>,
+    gathered: &[Datagram],
+    now: Milliseconds,
+)
+    ensures { Performs W.performs world.old world.new (λ es.
+        DeliversAll index now (map peer_of gathered.now) deliveries.items waiting.old es waiting.new) }
+{
+    let mut rest = gathered;
+    for delivery in deliveries {
+        let [datagram, more @ ..] = rest else {
             return;
         };
-        for (delivery, datagram) in deliveries.into_iter().zip(gathered) {
-            self.deliver(index, waiting, delivery, datagram.peer, now);
-        }
+        deliver(world, index, waiting, delivery, datagram.peer, now);
+        rest = more;
     }
+}
 
-    /// Sends a reply, or puts it among those that wait for their moment. One for which there is no room is lost, as any
-    /// datagram may be.
-    fn deliver(
-        &self,
-        index: usize,
-        waiting: &mut Schedule<WaitingReply>,
-        delivery: Delivery,
-        peer: SocketAddr,
-        now: Milliseconds,
-    ) {
-        let Delivery {
-            reply,
-            copies,
-            after_milliseconds,
-            close_after: _close_after,
-        } = delivery;
-        let Some(bytes) = reply else {
-            return;
-        };
-        let moment = now.saturating_add(after_milliseconds);
-        let reply = WaitingReply {
-            socket: index,
-            peer,
-            copies,
-            bytes,
-        };
-        if moment <= now {
-            self.send(&reply);
-        } else {
-            let _pushed = waiting.push(moment, reply);
-        }
+/// Sends a reply, or puts it among those that wait for their moment. One for which there is no room is lost, as any datagram may be.
+fn deliver<W: World>(
+    world: &mut W,
+    index: usize,
+    waiting: &mut Schedule<WaitingReply>,
+    delivery: Delivery,
+    peer: SocketAddr,
+    now: Milliseconds,
+)
+    ensures { Performs W.performs world.old world.new (λ es.
+        Delivers index peer now delivery waiting.old es waiting.new) }
+{
+    let Delivery {
+        reply,
+        copies,
+        after_milliseconds,
+        close_after: _close_after,
+    } = delivery;
+    let Some(bytes) = reply else {
+        return;
+    };
+    let moment = now.saturating_add(after_milliseconds);
+    let reply = WaitingReply {
+        socket: index,
+        peer,
+        copies,
+        bytes,
+    };
+    if moment <= now {
+        send(world, &reply);
+    } else {
+        let _pushed = waiting.push(moment, reply);
     }
+}
 
-    /// Sends a datagram without a request. Returns `false` if the system does not take it.
-    pub(crate) fn send_notice(&self, notice: &Notice) -> bool {
-        self.socket
-            .send_to(notice.bytes.as_slice(), notice.peer)
-            .is_ok()
+/// Sends a reply. What the system does not take is lost, as any datagram may be.
+fn send<W: World>(world: &mut W, reply: &WaitingReply)
+    ensures { Performs W.performs world.old world.new
+        (AreCopies reply.now.socket reply.now.copies reply.now.bytes.items reply.now.peer) }
+{
+    for _copy in 0..reply.copies {
+        let _sent = world.send(reply.socket, reply.bytes.as_slice(), reply.peer);
     }
+}
 
-    /// Sends a reply. What the system does not take is lost, as any datagram may be.
-    fn send(&self, reply: &WaitingReply) {
-        for _copy in 0..reply.copies {
-            let _sent = self.socket.send_to(reply.bytes.as_slice(), reply.peer);
-        }
+/// Returns `true` if no further datagram may be handled together with these.
+fn is_complete<H: Handler>(handler: &H, gathered: &[Datagram]) -> bool
+    ensures { result ≡ is_complete (H.gathers_after handler.now) gathered.now }
+{
+    match gathered.last() {
+        Some(last) => !handler.gathers(last.bytes.as_slice()),
+        None => false,
     }
 }
 
@@ -219,17 +320,36 @@ fn gather<H: Handler>(
     bytes: &[u8],
     peer: SocketAddr,
     now: Milliseconds,
-) {
-    let response = Request {
+)
+    ensures { Performs H.steps handler.old handler.new (λ calls.
+        Gathers (datagram_at bytes.now peer now) gathered.old.items calls gathered.new.items) }
+{
+    let request = Request {
         bytes,
         peer,
         transport: Transport::Datagram,
         moment: now,
     };
-    if is_response(bytes) && handler.take_response(&response) {
-        return;
+    if !is_expected(handler, &request) {
+        add(gathered, alloc, bytes, peer);
     }
-    // Without memory there is no reply, as if the datagram had been lost.
+}
+
+/// Returns `true` for a response that is expected.
+fn is_expected<H: Handler>(handler: &mut H, request: &Request<'_>) -> bool
+    ensures { Performs H.steps handler.old handler.new (λ calls.
+        TakesIf (is_response request.now.bytes.now) (request_content request.now) calls result) }
+{
+    if !is_response(request.bytes) {
+        return false;
+    }
+    handler.take_response(request)
+}
+
+/// Adds a datagram to those that are handled together. Without memory there is no reply, as if the datagram had been lost.
+fn add(gathered: &mut Vec<Datagram>, alloc: Global, bytes: &[u8], peer: SocketAddr)
+    ensures { IsAddedOrLost peer bytes.now gathered.old.items gathered.new.items }
+{
     if let Ok(bytes) = Vec::from_slice(alloc, bytes) {
         let _pushed = gathered.push(Datagram { peer, bytes });
     }
@@ -241,7 +361,10 @@ fn deliveries_of<H: Handler>(
     handler: &mut H,
     gathered: &[Datagram],
     now: Milliseconds,
-) -> Result<Vec<Delivery>, AllocError> {
+) -> Result<Vec<Delivery>, AllocError>
+    ensures { Performs H.steps handler.old handler.new (λ calls.
+        HandlesIf now gathered.now calls (deliveries_if result)) }
+{
     let mut requests = Vec::new(alloc);
     for datagram in gathered {
         requests.push(Request {
@@ -258,17 +381,19 @@ fn deliveries_of<H: Handler>(
 }
 
 /// Sends the replies whose moment has come.
-pub(crate) fn send_due(
-    sockets: &[DatagramSocket],
+pub(crate) fn send_due<W: World>(
+    world: &mut W,
     waiting: &mut Schedule<WaitingReply>,
     now: Milliseconds,
-) {
+)
+    ensures sent { Performs W.performs world.old world.new
+        (AreSent (all_due now waiting.old.items)) }
+    ensures left { waiting.new ≡ record waiting.old { items = all_left now waiting.old.items } }
+{
     for _reply in 0..waiting.len() {
         let Some(reply) = waiting.pop_due(now) else {
             return;
         };
-        if let Some(socket) = sockets.get(reply.socket) {
-            socket.send(&reply);
-        }
+        send(world, &reply);
     }
 }

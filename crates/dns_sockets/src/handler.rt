@@ -36,29 +36,40 @@ impl Drop for Notice {
 
 /// Decides what is sent in reply to requests and without any, and when.
 pub trait Handler {
+    ghost use Rattle.std.specs.Prelude.{◌≡◌, Bool, List, map, ℕ};
+    ghost use Rattle.dns_sockets.specs.Handler.{Handled, HandlerEvent, Noticed, Took, Transferred, deliveries_if, messages_if, notice_if, request_content};
+
+    /// Whether the requests that wait after one of these bytes may be handled together with it.
+    ghost gathers_after: { Self → List ℕ → Bool };
+
+    /// From a state, a call may be this event and lead to that state.
+    ghost steps: { Self → HandlerEvent → Self → Type 0 };
+
     /// Returns `true` if the requests that wait after this one may be handled together with it.
-    fn gathers(&self, bytes: &[u8]) -> bool;
+    fn gathers(&self, bytes: &[u8]) -> bool
+        ensures { result ≡ gathers_after self.now bytes.now };
 
     /// Handles requests that arrived together: at most 64, each of which but the last one gathers. Returns what is sent for each of
     /// them, in order. After an error, which is want of memory, datagrams have no reply, and a stream is closed.
-    fn handle(&mut self, requests: &[Request<'_>]) -> Result<Vec<Delivery>, AllocError>;
+    fn handle(&mut self, requests: &[Request<'_>]) -> Result<Vec<Delivery>, AllocError>
+        ensures { steps self.old (Handled (map request_content requests.now)
+            (deliveries_if result)) self.new };
 
     /// Returns the messages of the reply to a request over a stream that has several, such as a transfer of a zone (RFC 5936), or
-    /// `None` for another request, which is then handled. While many such replies wait to be written, `_is_busy` is true. After an
+    /// `None` for another request, which is then handled. While many such replies wait to be written, `is_busy` is true. After an
     /// error, which is want of memory, the stream is closed.
     fn transfer(
         &mut self,
-        _request: &Request<'_>,
-        _is_busy: bool,
-    ) -> Result<Option<Vec<Vec<u8>>>, AllocError> {
-        Ok(None)
-    }
+        request: &Request<'_>,
+        is_busy: bool,
+    ) -> Result<Option<Vec<Vec<u8>>>, AllocError>
+        ensures { steps self.old (Transferred (request_content request.now) is_busy
+            (messages_if result)) self.new };
 
     /// Takes a datagram that is a response, to what was sent without a request. Returns `false` if it is none that was expected:
     /// then it is handled as a request.
-    fn take_response(&mut self, _response: &Request<'_>) -> bool {
-        false
-    }
+    fn take_response(&mut self, response: &Request<'_>) -> bool
+        ensures { steps self.old (Took (request_content response.now) result) self.new };
 
     /// Returns the earliest moment at which a datagram is due to be sent without a request, or `None` if none will be.
     fn next_moment(&self) -> Option<Milliseconds> {
@@ -66,7 +77,6 @@ pub trait Handler {
     }
 
     /// Returns the next datagram that is due at a moment to be sent without a request. It is sent once.
-    fn next_notice(&mut self, _now: Milliseconds) -> Option<Notice> {
-        None
-    }
+    fn next_notice(&mut self, now: Milliseconds) -> Option<Notice>
+        ensures { steps self.old (Noticed now (notice_if result)) self.new };
 }

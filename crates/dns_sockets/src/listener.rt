@@ -1,13 +1,14 @@
 //! Listeners for connections.
 
+ghost use Rattle.std.specs.List.{AllByRecursion};
+ghost use Rattle.dns_sockets.specs.Events.{Performs};
+ghost use Rattle.dns_sockets.specs.Trace.{IsAsideEvent};
+
 use crate::clock::Milliseconds;
 use crate::stream::Stream;
 use crate::stream_table::StreamTable;
-use crate::tokens::SocketToken;
-use mio::net::{TcpListener, TcpStream};
-use mio::{Interest, Registry};
+use crate::world::{Arrival, World};
 use std::alloc::Global;
-use std::io::ErrorKind;
 use std::net::SocketAddr;
 
 /// How many connections of a listener are accepted before others have their turn.
@@ -17,29 +18,16 @@ const MAX_BATCH: usize = 64;
 const RETRY_INTERVAL: Milliseconds = 100;
 
 /// A listener at an address of the service.
+#[derive(Drop)]
 pub(crate) struct Listener {
-    listener: TcpListener,
     /// When connections may wait to be accepted.
     ready_at: Milliseconds,
 }
 
-impl Drop for Listener {
-    fn drop(self) {
-        let Listener {
-            listener,
-            ready_at: _ready_at,
-        } = self;
-        drop(listener);
-    }
-}
-
 impl Listener {
-    /// Wraps a listener that is registered.
-    pub(crate) fn new(listener: TcpListener) -> Listener {
-        Listener {
-            listener,
-            ready_at: 0,
-        }
+    /// Creates the state of a listener that was opened.
+    pub(crate) fn new() -> Listener {
+        Listener { ready_at: 0 }
     }
 
     /// Takes note that connections wait to be accepted.
@@ -53,53 +41,72 @@ impl Listener {
     }
 
     /// Accepts connections that wait, at most 64 of them.
-    pub(crate) fn accept(
+    pub(crate) fn accept<W: World>(
         &mut self,
+        world: &mut W,
         alloc: Global,
-        registry: &Registry,
+        index: usize,
         streams: &mut StreamTable,
         now: Milliseconds,
-    ) {
+    )
+        ensures { Performs W.performs world.old world.new (λ es.
+            AllByRecursion IsAsideEvent es) }
+    {
         if now < self.ready_at {
             return;
         }
         for _connection in 0..MAX_BATCH {
-            match self.listener.accept() {
-                Ok((socket, peer)) => admit(alloc, registry, streams, socket, peer, now),
-                Err(error) => match error.kind() {
-                    ErrorKind::Interrupted | ErrorKind::ConnectionAborted => {}
-                    ErrorKind::WouldBlock => {
-                        self.ready_at = Milliseconds::MAX;
-                        return;
-                    }
-                    _ => {
-                        // A closed connection gives its descriptor back.
-                        streams.close_oldest();
-                        self.ready_at = now.saturating_add(RETRY_INTERVAL);
-                        return;
-                    }
-                },
+            if !self.accept_one(world, alloc, index, streams, now) {
+                return;
+            }
+        }
+    }
+
+    /// Accepts the next connection that waits. Returns `false` if none does.
+    fn accept_one<W: World>(
+        &mut self,
+        world: &mut W,
+        alloc: Global,
+        index: usize,
+        streams: &mut StreamTable,
+        now: Milliseconds,
+    ) -> bool
+        ensures { Performs W.performs world.old world.new (λ es.
+            AllByRecursion IsAsideEvent es) }
+    {
+        match world.accept(index) {
+            Arrival::Connection(peer) => {
+                admit(world, alloc, streams, peer, now);
+                true
+            }
+            Arrival::Interrupted => true,
+            Arrival::Nothing => {
+                self.ready_at = Milliseconds::MAX;
+                false
+            }
+            Arrival::Failed => {
+                // A closed connection gives its descriptor back.
+                streams.close_oldest(world);
+                self.ready_at = now.saturating_add(RETRY_INTERVAL);
+                false
             }
         }
     }
 }
 
-/// Admits a connection to the table. One that cannot be registered is closed.
-fn admit(
+/// Admits a connection to the table. One for which the system has no room is closed.
+fn admit<W: World>(
+    world: &mut W,
     alloc: Global,
-    registry: &Registry,
     streams: &mut StreamTable,
-    socket: TcpStream,
     peer: SocketAddr,
     now: Milliseconds,
-) {
-    let mut socket = socket;
-    let index = streams.vacate();
-    // Without it, replies may only be slower.
-    let _delays = socket.set_nodelay(true);
-    let token = SocketToken::Stream(index).to_token();
-    let interest = Interest::READABLE | Interest::WRITABLE;
-    if registry.register(&mut socket, token, interest).is_ok() {
-        streams.put(index, Stream::new(alloc, socket, peer, now));
+)
+    ensures { Performs W.performs world.old world.new (λ es.
+        AllByRecursion IsAsideEvent es) }
+{
+    let index = streams.vacate(world);
+    if world.admit(index) {
+        streams.put(index, Stream::new(alloc, peer, now));
     }
 }

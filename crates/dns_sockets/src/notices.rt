@@ -1,11 +1,13 @@
 //! Datagrams that are sent without a request, and the responses to them.
 
 ghost use Rattle.std.specs.Prelude.{◌≡◌};
-ghost use Rattle.dns_sockets.specs.Notices.{is_response, sooner};
+ghost use Rattle.dns_sockets.specs.Events.{Performs};
+ghost use Rattle.dns_sockets.specs.Notices.{AreNotices, AreTries, is_response, sooner};
+ghost use Rattle.dns_sockets.specs.Trace.{Traces};
 
 use crate::clock::Milliseconds;
-use crate::datagrams::DatagramSocket;
 use crate::handler::{Handler, Notice};
+use crate::world::World;
 
 /// How many datagrams are sent without a request before others have their turn.
 const MAX_BATCH: usize = 64;
@@ -33,24 +35,31 @@ pub(crate) fn sooner(moment: Milliseconds, other: Option<Milliseconds>) -> Milli
     }
 }
 
-/// Sends the datagrams that are due without a request, at most 64 of them.
-pub(crate) fn send_notices<H: Handler>(
-    sockets: &[DatagramSocket],
+/// Sends the datagrams that are due without a request, at most 64 of them, from one of so many sockets.
+pub(crate) fn send_notices<W: World, H: Handler>(
+    world: &mut W,
+    sockets: usize,
     handler: &mut H,
     now: Milliseconds,
-) {
+)
+    ensures { Traces W.performs H.steps world.old handler.old world.new handler.new
+        (AreNotices 64 sockets now) }
+{
     for _notice in 0..MAX_BATCH {
         let Some(notice) = handler.next_notice(now) else {
             return;
         };
-        send(sockets, &notice);
+        send(world, sockets, &notice);
     }
 }
 
 /// Sends a datagram from the first socket that can send to its address. One that none takes is lost, as any datagram may be.
-fn send(sockets: &[DatagramSocket], notice: &Notice) {
-    for socket in sockets {
-        if socket.send_notice(notice) {
+fn send<W: World>(world: &mut W, sockets: usize, notice: &Notice)
+    ensures { Performs W.performs world.old world.new
+        (AreTries 0 sockets notice.now.bytes.items notice.now.peer) }
+{
+    for socket in 0..sockets {
+        if world.send(socket, notice.bytes.as_slice(), notice.peer) {
             return;
         }
     }

@@ -1,20 +1,21 @@
-//! The sockets of a service, and the loop over them.
+//! The state of a service, and its loop.
 
-use crate::clock::{Milliseconds, ServiceClock};
+ghost use Rattle.std.specs.List.{AllByRecursion};
+ghost use Rattle.std.specs.Prelude.{◌≡◌};
+ghost use Rattle.dns_sockets.specs.Events.{Performs};
+ghost use Rattle.dns_sockets.specs.Ledger.{Earns};
+ghost use Rattle.dns_sockets.specs.Trace.{IsAsideEvent, Traces};
+
+use crate::clock::Milliseconds;
 use crate::datagrams::{DatagramSocket, WaitingReply, send_due};
 use crate::handler::Handler;
-use crate::input::{has_ended, watch_input};
 use crate::listener::Listener;
 use crate::notices::{send_notices, sooner};
-use crate::open::{Sockets, open_sockets};
 use crate::schedule::Schedule;
 use crate::stream_table::StreamTable;
-use crate::tokens::SocketToken;
-use mio::{Events, Poll};
-use std::alloc::Global;
-use std::io::{self, Input};
-use std::net::{Net, SocketAddr};
-use std::time::{Clock, Duration};
+use crate::world::{Wake, World};
+use std::alloc::{AllocError, Global};
+use std::io;
 
 /// The maximum number of connections of a service.
 pub const MAX_STREAMS: usize = 256;
@@ -22,97 +23,92 @@ pub const MAX_STREAMS: usize = 256;
 /// The maximum number of replies in datagrams that wait for their moment.
 const MAX_WAITING: usize = 4_096;
 
-/// The number of events that the system reports at once.
-const MAX_EVENTS: usize = 512;
-
 /// The size of the buffer for what is received, in bytes: as many as a message may have (RFC 1035 section 4.2.2).
 const BUFFER_LEN: usize = 65_535;
 
-/// What ends the loop of a service, besides a signal.
-#[derive(Clone, Copy, Debug, PartialEq, Eq)]
-pub enum Until {
-    /// Nothing.
-    Signal,
-    /// The end of standard input, which is at its end if it is a file.
-    InputEnds,
-}
-
-/// Sockets at which requests arrive.
+/// What a service knows of its datagram sockets, listeners and connections, and the replies that wait.
 #[derive(Drop)]
 pub struct Service {
     alloc: Global,
-    poll: Poll,
     datagrams: Vec<DatagramSocket>,
     listeners: Vec<Listener>,
     streams: StreamTable,
     waiting: Schedule<WaitingReply>,
     buffer: Vec<u8>,
-    clock: ServiceClock,
 }
 
 impl Service {
-    /// Creates a service without sockets.
-    pub fn new<R: Net + Clock>(rt: &R, alloc: Global) -> io::Result<Service> {
+    /// Creates a service without addresses.
+    ///
+    /// # Errors
+    ///
+    /// Memory is refused.
+    pub fn new(alloc: Global) -> Result<Service, AllocError> {
         Ok(Service {
             alloc,
-            poll: Poll::new(rt)?,
             datagrams: Vec::new(alloc),
             listeners: Vec::new(alloc),
             streams: StreamTable::new(alloc, MAX_STREAMS),
             waiting: Schedule::new(alloc, MAX_WAITING),
             buffer: vec![in alloc; 0u8; BUFFER_LEN]?,
-            clock: ServiceClock::start(rt)?,
         })
     }
 
-    /// Opens a datagram socket and a listener at an address, and returns it. At port 0, both have a port that the system chooses.
-    pub fn listen<R: Net>(&mut self, net: &R, address: SocketAddr) -> io::Result<SocketAddr> {
-        let index = self.datagrams.len();
-        let Sockets {
-            address,
-            datagrams,
-            listener,
-        } = open_sockets(net, self.poll.registry(), index, address)?;
-        self.datagrams.push(datagrams)?;
-        self.listeners.push(listener)?;
-        Ok(address)
+    /// Adds the datagram socket and the listener of the next index.
+    ///
+    /// # Errors
+    ///
+    /// Memory is refused.
+    pub fn add(&mut self) -> Result<(), AllocError> {
+        self.datagrams.push(DatagramSocket::new())?;
+        self.listeners.push(Listener::new())?;
+        Ok(())
     }
 
-    /// Handles requests until a signal ends the program, or standard input ends if that is asked for.
+    /// Handles requests until the world ends the service.
+    ///
+    /// Each datagram that is sent is a reply to a request that arrived at the same socket from the same peer, and is sent no more
+    /// often than the handler says, or is due without a request.
     ///
     /// # Errors
     ///
     /// An error of the clock or of the wait for events, which have none on a sound system.
-    pub fn run<R: Net + Clock + Input, H: Handler>(
-        &mut self,
-        rt: &R,
-        handler: &mut H,
-        until: Until,
-    ) -> io::Result<()> {
-        if until == Until::InputEnds && !watch_input(self.poll.registry()) {
-            return Ok(());
-        }
-        let mut events = Events::with_capacity(self.alloc, MAX_EVENTS)?;
+    pub fn run<W: World, H: Handler>(&mut self, world: &mut W, handler: &mut H) -> io::Result<()>
+        ensures { Traces W.performs H.steps world.old handler.old world.new handler.new
+            (Earns self.old.waiting.items self.new.waiting.items) }
+    {
         for _turn in 0..u64::MAX {
-            let wait = self.wait(rt, handler.next_moment())?;
-            self.poll.poll(&mut events, wait)?;
-            if self.note_all(rt, &events) {
+            if self.turn(world, handler)? {
                 return Ok(());
             }
-            self.turn(rt, handler)?;
         }
         Ok(())
     }
 
-    /// Returns how long to wait for events: not at all if there is something to do, and without end if there is not. At a moment,
-    /// something is to be sent without a request.
-    fn wait<R: Clock>(&self, rt: &R, moment: Option<Milliseconds>) -> io::Result<Option<Duration>> {
+    /// Waits until there is something to do, and does it. Returns `true` if the service is to end.
+    fn turn<W: World, H: Handler>(&mut self, world: &mut W, handler: &mut H) -> io::Result<bool>
+        ensures { Traces W.performs H.steps world.old handler.old world.new handler.new
+            (Earns self.old.waiting.items self.new.waiting.items) }
+    {
+        self.wait(world, handler.next_moment())?;
+        if self.note_all(world) {
+            return Ok(true);
+        }
+        self.serve(world, handler)?;
+        Ok(false)
+    }
+
+    /// Waits until there is something to do: not at all if there is now, and without end if there will not be. At a moment, something
+    /// is to be sent without a request.
+    fn wait<W: World>(&self, world: &mut W, moment: Option<Milliseconds>) -> io::Result<()>
+        ensures { Performs W.performs world.old world.new (AllByRecursion IsAsideEvent) }
+    {
         let deadline = sooner(self.deadline(), moment);
         if deadline == Milliseconds::MAX {
-            return Ok(None);
+            return world.wait(None);
         }
-        let now = self.clock.now(rt)?;
-        Ok(Some(Duration::from_millis(deadline.saturating_sub(now))))
+        let now = world.now()?;
+        world.wait(Some(deadline.saturating_sub(now)))
     }
 
     /// Returns when there is something to do without an event.
@@ -130,52 +126,114 @@ impl Service {
         least
     }
 
-    /// Takes note of events. Returns `true` if standard input has ended.
-    fn note_all<I: Input>(&mut self, input: &I, events: &Events) -> bool {
-        for event in events.iter() {
-            match SocketToken::from_token(event.token()) {
-                SocketToken::Input => {
-                    if has_ended(input, self.poll.registry()) {
-                        return true;
-                    }
-                }
-                token => self.note(token, event.is_readable(), event.is_writable()),
+    /// Takes note of what ended a wait. Returns `true` if the service is to end.
+    fn note_all<W: World>(&mut self, world: &mut W) -> bool
+        ensures world { Performs W.performs world.old world.new (AllByRecursion IsAsideEvent) }
+        ensures waiting { self.new.waiting ≡ self.old.waiting }
+    {
+        for _wake in 0..u64::MAX {
+            match world.next_wake() {
+                None => return false,
+                Some(Wake::End) => return true,
+                Some(wake) => self.note(wake),
             }
         }
         false
     }
 
-    /// Takes note of what the system says that a socket is ready for.
-    fn note(&mut self, token: SocketToken, is_readable: bool, is_writable: bool) {
-        match token {
-            SocketToken::Datagrams(index) => {
+    /// Takes note of what a socket may be ready for.
+    fn note(&mut self, wake: Wake)
+        ensures { self.new.waiting ≡ self.old.waiting }
+    {
+        match wake {
+            Wake::Datagrams(index) => {
                 if let Some(socket) = self.datagrams.as_mut_slice().get_mut(index) {
                     socket.note();
                 }
             }
-            SocketToken::Listener(index) => {
+            Wake::Listener(index) => {
                 if let Some(listener) = self.listeners.as_mut_slice().get_mut(index) {
                     listener.note();
                 }
             }
-            SocketToken::Stream(index) => self.streams.note(index, is_readable, is_writable),
-            SocketToken::Input => {}
+            Wake::Stream(index, is_readable, is_writable) => {
+                self.streams.note(index, is_readable, is_writable);
+            }
+            Wake::End => {}
         }
     }
 
     /// Lets each socket do what it can without waiting, up to its share.
-    fn turn<R: Clock, H: Handler>(&mut self, rt: &R, handler: &mut H) -> io::Result<()> {
-        let now = self.clock.now(rt)?;
-        let buffer = self.buffer.as_mut_slice();
-        for (index, socket) in self.datagrams.as_mut_slice().iter_mut().enumerate() {
-            socket.serve(self.alloc, index, handler, &mut self.waiting, buffer, now);
-        }
-        for listener in self.listeners.as_mut_slice() {
-            listener.accept(self.alloc, self.poll.registry(), &mut self.streams, now);
-        }
-        self.streams.go_on(rt, &self.clock, handler, buffer)?;
-        send_due(self.datagrams.as_slice(), &mut self.waiting, now);
-        send_notices(self.datagrams.as_slice(), handler, now);
+    fn serve<W: World, H: Handler>(&mut self, world: &mut W, handler: &mut H) -> io::Result<()>
+        ensures { Traces W.performs H.steps world.old handler.old world.new handler.new
+            (Earns self.old.waiting.items self.new.waiting.items) }
+    {
+        let now = world.now()?;
+        self.serve_datagrams(world, handler, now);
+        self.accept(world, now);
+        self.streams
+            .go_on(world, handler, self.buffer.as_mut_slice())?;
+        send_due(world, &mut self.waiting, now);
+        send_notices(world, self.datagrams.len(), handler, now);
         Ok(())
+    }
+
+    /// Handles the datagrams that wait.
+    fn serve_datagrams<W: World, H: Handler>(
+        &mut self,
+        world: &mut W,
+        handler: &mut H,
+        now: Milliseconds,
+    )
+        ensures { Traces W.performs H.steps world.old handler.old world.new handler.new
+            (Earns self.old.waiting.items self.new.waiting.items) }
+    {
+        for index in 0..self.datagrams.len() {
+            self.serve_socket(world, handler, index, now);
+        }
+    }
+
+    /// Handles the datagrams that wait at the socket of an index.
+    fn serve_socket<W: World, H: Handler>(
+        &mut self,
+        world: &mut W,
+        handler: &mut H,
+        index: usize,
+        now: Milliseconds,
+    )
+        ensures { Traces W.performs H.steps world.old handler.old world.new handler.new
+            (Earns self.old.waiting.items self.new.waiting.items) }
+    {
+        if let Some(socket) = self.datagrams.as_mut_slice().get_mut(index) {
+            socket.serve(
+                world,
+                self.alloc,
+                index,
+                handler,
+                &mut self.waiting,
+                self.buffer.as_mut_slice(),
+                now,
+            );
+        }
+    }
+
+    /// Accepts the connections that wait.
+    fn accept<W: World>(&mut self, world: &mut W, now: Milliseconds)
+        ensures world { Performs W.performs world.old world.new (AllByRecursion IsAsideEvent) }
+        ensures waiting { self.new.waiting ≡ self.old.waiting }
+    {
+        for index in 0..self.listeners.len() {
+            self.accept_at(world, index, now);
+        }
+    }
+
+    /// Accepts the connections that wait at the listener of an index.
+    fn accept_at<W: World>(&mut self, world: &mut W, index: usize, now: Milliseconds)
+        ensures world { Performs W.performs world.old world.new (AllByRecursion IsAsideEvent) }
+        ensures waiting { self.new.waiting ≡ self.old.waiting }
+    {
+        if let Some(listener) = self.listeners.as_mut_slice().get_mut(index) {
+            listener.accept(world, self.alloc, index, &mut self.streams, now);
+        }
     }
 }

@@ -1,19 +1,24 @@
 //! A connection of a listener.
 
-ghost use Rattle.std.specs.Prelude.{◌≡◌, ◌+◌, ◌≤◌, ◌++◌, true, IfSome, OnOk, length, map, option_to_list};
+ghost use Rattle.std.specs.List.{AllByRecursion};
+ghost use Rattle.std.specs.Prelude.{◌≡◌, ◌+◌, ◌≤◌, ◌++◌, [], ◌∷◌, true, IfOk, IfSome, OnOk, drop, length, map, option_to_list};
 ghost use Rattle.dns_server.specs.Connection.{max_input_len};
-ghost use Rattle.dns_sockets.specs.Stream.{deadline, held_message, held_reply};
+ghost use Rattle.dns_sockets.specs.Events.{Performs};
+ghost use Rattle.dns_sockets.specs.Trace.{IsOfStream, MayRead, Traces};
+ghost use Rattle.dns_sockets.specs.World.{IsWithin, moved, write_event};
+ghost use Rattle.dns_sockets.specs.declared.world.Progress.{Progress};
+ghost use Rattle.dns_sockets.specs.Handler.{message_bytes, request_content};
+ghost use Rattle.dns_sockets.specs.Stream.{Answers, AreAnswered, AreHandled, deadline, held_message, held_reply, stream_request};
 ghost use Rattle.dns_sockets.specs.StreamTable.{is_transferring};
 
 use crate::clock::Milliseconds;
 use crate::handler::{Handler, Request, Transport};
 use crate::output::Output;
+use crate::world::{Progress, World};
 use dns_faults::Delivery;
 use dns_server::Connection;
-use mio::net::TcpStream;
 use std::alloc::{AllocError, Global};
 use std::collections::VecDeque;
-use std::io::{ErrorKind, Read, Write};
 use std::net::SocketAddr;
 
 /// How many steps a connection makes before others have their turn.
@@ -78,7 +83,6 @@ impl HeldReply {
 /// A connection, and what has arrived and is to be written on it.
 pub(crate) struct Stream {
     alloc: Global,
-    socket: TcpStream,
     peer: SocketAddr,
     /// What has arrived. Its requests are taken from it before they are handled.
     connection: Connection,
@@ -100,7 +104,6 @@ impl Drop for Stream {
     fn drop(self) {
         let Stream {
             alloc: _alloc,
-            socket,
             peer: _peer,
             connection,
             held,
@@ -112,7 +115,6 @@ impl Drop for Stream {
             wants_turn: _wants_turn,
             is_transferring: _is_transferring,
         } = self;
-        drop(socket);
         drop(connection);
         drop(held);
         drop(output);
@@ -121,15 +123,9 @@ impl Drop for Stream {
 
 impl Stream {
     /// Creates the state of a connection that a listener has accepted.
-    pub(crate) fn new(
-        alloc: Global,
-        socket: TcpStream,
-        peer: SocketAddr,
-        now: Milliseconds,
-    ) -> Stream {
+    pub(crate) fn new(alloc: Global, peer: SocketAddr, now: Milliseconds) -> Stream {
         Stream {
             alloc,
-            socket,
             peer,
             connection: Connection::new(alloc),
             held: VecDeque::new(alloc),
@@ -182,15 +178,20 @@ impl Stream {
     }
 
     /// Goes on as far as the peer allows, but for at most 8 steps. Returns `true` if the connection is to be closed.
-    pub(crate) fn go_on<H: Handler>(
+    pub(crate) fn go_on<W: World, H: Handler>(
         &mut self,
+        world: &mut W,
+        index: usize,
         handler: &mut H,
         buffer: &mut [u8],
         now: Milliseconds,
         is_busy: bool,
-    ) -> bool {
+    ) -> bool
+        ensures { Traces W.performs H.steps world.old handler.old world.new handler.new
+            (AllByRecursion (IsOfStream index)) }
+    {
         for _step in 0..MAX_STEPS {
-            match self.step(handler, buffer, now, is_busy) {
+            match self.step(world, index, handler, buffer, now, is_busy) {
                 Step::Moved => {}
                 Step::Waits => {
                     self.wants_turn = false;
@@ -203,16 +204,21 @@ impl Stream {
     }
 
     /// Makes one step: writes what waits, releases held replies, handles requests, or reads.
-    fn step<H: Handler>(
+    fn step<W: World, H: Handler>(
         &mut self,
+        world: &mut W,
+        index: usize,
         handler: &mut H,
         buffer: &mut [u8],
         now: Milliseconds,
         is_busy: bool,
-    ) -> Step {
+    ) -> Step
+        ensures { Traces W.performs H.steps world.old handler.old world.new handler.new
+            (AllByRecursion (IsOfStream index)) }
+    {
         let has_output = !self.output.rest().is_empty();
         if has_output && self.readiness.write {
-            return self.write(now);
+            return self.write(world, index, now);
         }
         if self.is_closing {
             return if has_output {
@@ -230,32 +236,42 @@ impl Stream {
         if self.connection.next_message().is_some() {
             return self.handle(handler, now, is_busy);
         }
-        self.receive(buffer, now)
+        self.receive(world, index, buffer, now)
     }
 
     /// Writes bytes that wait.
-    fn write(&mut self, now: Milliseconds) -> Step {
-        let mut sink = &self.socket;
-        match sink.write(self.output.rest()) {
-            Ok(0) => Step::Closes,
-            Ok(count) => {
+    fn write<W: World>(&mut self, world: &mut W, index: usize, now: Milliseconds) -> Step
+        ensures { (progress : Progress) × (W.performs world.old
+            (write_event index progress self.old.output) world.new
+            × (self.new.output ≡ drop (moved progress) self.old.output)) }
+    {
+        let progress = world.write(index, self.output.rest());
+        self.wrote(progress, now)
+    }
+
+    /// Takes note of what came of a write.
+    fn wrote(&mut self, progress: Progress, now: Milliseconds) -> Step
+        ensures { self.new.output ≡ drop (moved progress) self.old.output }
+    {
+        match progress {
+            Progress::Bytes(0) | Progress::Failed => Step::Closes,
+            Progress::Bytes(count) => {
                 self.output.wrote(count);
                 self.last_activity = now;
                 Step::Moved
             }
-            Err(error) => match error.kind() {
-                ErrorKind::Interrupted => Step::Moved,
-                ErrorKind::WouldBlock => {
-                    self.readiness.write = false;
-                    Step::Moved
-                }
-                _ => Step::Closes,
-            },
+            Progress::Interrupted => Step::Moved,
+            Progress::Nothing => {
+                self.readiness.write = false;
+                Step::Moved
+            }
         }
     }
 
     /// Handles the requests that have arrived, and holds their replies.
-    fn handle<H: Handler>(&mut self, handler: &mut H, now: Milliseconds, is_busy: bool) -> Step {
+    fn handle<H: Handler>(&mut self, handler: &mut H, now: Milliseconds, is_busy: bool) -> Step
+        ensures { Performs H.steps handler.old handler.new (Answers is_busy self.old.peer now) }
+    {
         match self.answer(handler, now, is_busy) {
             Ok(()) => Step::Moved,
             // There was no memory for the replies, so that no later ones may take their place.
@@ -269,23 +285,61 @@ impl Stream {
         handler: &mut H,
         now: Milliseconds,
         is_busy: bool,
-    ) -> Result<(), AllocError> {
+    ) -> Result<(), AllocError>
+        ensures { Performs H.steps handler.old handler.new (Answers is_busy self.old.peer now) }
+    {
         let gathered = self.gather(handler)?;
-        let mut requests = Vec::new(self.alloc);
-        for bytes in gathered.as_slice() {
-            requests.push(Request {
-                bytes: bytes.as_slice(),
-                peer: self.peer,
-                transport: Transport::Stream,
-                moment: now,
-            })?;
+        let requests = requests_of(self.alloc, gathered.as_slice(), self.peer, now)?;
+        self.respond(handler, requests.as_slice(), now, is_busy)
+    }
+
+    /// Handles requests that arrived together, and holds their replies.
+    fn respond<H: Handler>(
+        &mut self,
+        handler: &mut H,
+        requests: &[Request<'_>],
+        now: Milliseconds,
+        is_busy: bool,
+    ) -> Result<(), AllocError>
+        ensures { Performs H.steps handler.old handler.new
+            (AreAnswered is_busy (map request_content requests.now)) }
+    {
+        match requests {
+            [request] => self.respond_to_one(handler, requests, request, now, is_busy),
+            _ => self.respond_together(handler, requests, now),
         }
-        if let [request] = requests.as_slice() {
-            if let Some(messages) = handler.transfer(request, is_busy)? {
-                return self.hold_all(messages, now);
-            }
+    }
+
+    /// Handles a single request, which may have a reply of several messages, and holds its replies.
+    fn respond_to_one<H: Handler>(
+        &mut self,
+        handler: &mut H,
+        requests: &[Request<'_>],
+        request: &Request<'_>,
+        now: Milliseconds,
+        is_busy: bool,
+    ) -> Result<(), AllocError>
+        requires { map request_content requests.now ≡ request_content request.now ∷ [] }
+        ensures { Performs H.steps handler.old handler.new
+            (AreAnswered is_busy (request_content request.now ∷ [])) }
+    {
+        match handler.transfer(request, is_busy)? {
+            Some(messages) => self.hold_all(messages, now),
+            None => self.respond_together(handler, requests, now),
         }
-        let deliveries = handler.handle(requests.as_slice())?;
+    }
+
+    /// Handles requests together, and holds their replies.
+    fn respond_together<H: Handler>(
+        &mut self,
+        handler: &mut H,
+        requests: &[Request<'_>],
+        now: Milliseconds,
+    ) -> Result<(), AllocError>
+        ensures { Performs H.steps handler.old handler.new
+            (AreHandled (map request_content requests.now)) }
+    {
+        let deliveries = handler.handle(requests)?;
         self.is_transferring = false;
         self.hold(deliveries, now)
     }
@@ -305,7 +359,9 @@ impl Stream {
 
     /// Takes the requests that have arrived and may be handled together, at most 64 of them. One that does not gather is taken alone,
     /// so that it is handled as if nothing had arrived with it.
-    fn gather<H: Handler>(&mut self, handler: &H) -> Result<Vec<Vec<u8>>, AllocError> {
+    fn gather<H: Handler>(&mut self, handler: &H) -> Result<Vec<Vec<u8>>, AllocError>
+        ensures { self.new.peer ≡ self.old.peer }
+    {
         let mut gathered = Vec::new(self.alloc);
         for _request in 0..MAX_BATCH {
             let Some(message) = self.connection.next_message() else {
@@ -389,7 +445,15 @@ impl Stream {
     }
 
     /// Reads bytes, if there is room for them.
-    fn receive(&mut self, buffer: &mut [u8], now: Milliseconds) -> Step {
+    fn receive<W: World>(
+        &mut self,
+        world: &mut W,
+        index: usize,
+        buffer: &mut [u8],
+        now: Milliseconds,
+    ) -> Step
+        ensures { Performs W.performs world.old world.new (MayRead index) }
+    {
         if self.has_ended {
             return if self.output.rest().is_empty() {
                 Step::Closes
@@ -401,21 +465,27 @@ impl Stream {
         if count == 0 || !self.readiness.read {
             return Step::Waits;
         }
-        let mut source = &self.socket;
-        match source.read(&mut buffer[..count]) {
-            Ok(0) => {
+        let progress = world.read(index, &mut buffer[..count]);
+        self.read(progress, &buffer[..count], now)
+    }
+
+    /// Takes note of what came of a read into a buffer, for whose bytes there is room.
+    fn read(&mut self, progress: Progress, buffer: &[u8], now: Milliseconds) -> Step
+        requires room { length self.old.connection.input + length buffer.now ≤ max_input_len }
+        requires within { IsWithin progress (length buffer.now) }
+    {
+        match progress {
+            Progress::Bytes(0) => {
                 self.has_ended = true;
                 Step::Moved
             }
-            Ok(count) => self.received(&buffer[..count], now),
-            Err(error) => match error.kind() {
-                ErrorKind::Interrupted => Step::Moved,
-                ErrorKind::WouldBlock => {
-                    self.readiness.read = false;
-                    Step::Waits
-                }
-                _ => Step::Closes,
-            },
+            Progress::Bytes(count) => self.received(&buffer[..count], now),
+            Progress::Interrupted => Step::Moved,
+            Progress::Nothing => {
+                self.readiness.read = false;
+                Step::Waits
+            }
+            Progress::Failed => Step::Closes,
         }
     }
 
@@ -432,4 +502,26 @@ impl Stream {
             Err(AllocError) => Step::Closes,
         }
     }
+}
+
+/// Returns messages that arrived over a stream as requests.
+fn requests_of<'g>(
+    alloc: Global,
+    gathered: &'g [Vec<u8>],
+    peer: SocketAddr,
+    now: Milliseconds,
+) -> Result<Vec<Request<'g>>, AllocError>
+    ensures { IfOk result (λ requests. map request_content requests.items
+        ≡ map (stream_request peer now) (map message_bytes gathered.now)) }
+{
+    let mut requests = Vec::new(alloc);
+    for bytes in gathered {
+        requests.push(Request {
+            bytes: bytes.as_slice(),
+            peer,
+            transport: Transport::Stream,
+            moment: now,
+        })?;
+    }
+    Ok(requests)
 }

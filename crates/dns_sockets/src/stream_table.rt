@@ -1,14 +1,18 @@
 //! The connections of a service.
 
 ghost use Rattle.std.specs.Prelude.{◌≡◌};
+ghost use Rattle.std.specs.List.{AllByRecursion};
+ghost use Rattle.dns_sockets.specs.Events.{Performs};
+ghost use Rattle.dns_sockets.specs.Trace.{IsAside, IsAsideEvent, Traces};
+ghost use Rattle.dns_sockets.specs.World as events;
 ghost use Rattle.dns_sockets.specs.StreamTable.{IsLeastActive, closed_at, has_transfer, is_less_active, transfers};
 
-use crate::clock::{Milliseconds, ServiceClock};
+use crate::clock::Milliseconds;
 use crate::handler::Handler;
 use crate::stream::Stream;
+use crate::world::World;
 use std::alloc::Global;
 use std::io;
-use std::time::Clock;
 
 /// For how many milliseconds the connections go on before datagrams have their turn, but for what the last of them does.
 const MAX_TURN: Milliseconds = 5;
@@ -47,7 +51,10 @@ impl StreamTable {
 
     /// Returns an index at which there is no connection. If there is none, the connection that has been idle for the longest
     /// time is closed.
-    pub(crate) fn vacate(&mut self) -> usize {
+    pub(crate) fn vacate<W: World>(&mut self, world: &mut W) -> usize
+        ensures { Performs W.performs world.old world.new (λ es.
+            AllByRecursion IsAsideEvent es) }
+    {
         if let Some(slot) = self.free_slot() {
             return slot;
         }
@@ -55,7 +62,7 @@ impl StreamTable {
         if count < self.capacity && self.slots.push(None).is_ok() {
             return count;
         }
-        self.close_oldest()
+        self.close_oldest(world)
     }
 
     /// Returns the first index at which there is no connection.
@@ -64,12 +71,13 @@ impl StreamTable {
     }
 
     /// Closes the connection that has been idle for the longest time, and returns its index, or 0 if there is none.
-    pub(crate) fn close_oldest(&mut self) -> usize
+    pub(crate) fn close_oldest<W: World>(&mut self, world: &mut W) -> usize
+        ensures world { W.performs world.old (events.Closed result) world.new }
         ensures oldest { IsLeastActive self.old.slots.items result }
         ensures closed { self.new.slots.items ≡ closed_at self.old.slots.items result }
     {
         let oldest = least_active(self.slots.as_slice());
-        self.close(oldest);
+        self.close(world, oldest);
         oldest
     }
 
@@ -81,9 +89,11 @@ impl StreamTable {
     }
 
     /// Closes the connection at an index, if there is one.
-    fn close(&mut self, index: usize)
-        ensures { self.new.slots.items ≡ closed_at self.old.slots.items index }
+    fn close<W: World>(&mut self, world: &mut W, index: usize)
+        ensures world { W.performs world.old (events.Closed index) world.new }
+        ensures closed { self.new.slots.items ≡ closed_at self.old.slots.items index }
     {
+        world.close(index);
         if index < self.slots.len() {
             self.slots[index] = None;
         }
@@ -100,28 +110,20 @@ impl StreamTable {
 
     /// Lets the connections go on that have something to do, one after another, until some milliseconds have passed: then the
     /// others are the first the next time. Those that have ended or have been idle for too long are closed.
-    pub(crate) fn go_on<R: Clock, H: Handler>(
+    pub(crate) fn go_on<W: World, H: Handler>(
         &mut self,
-        rt: &R,
-        clock: &ServiceClock,
+        world: &mut W,
         handler: &mut H,
         buffer: &mut [u8],
-    ) -> io::Result<()> {
-        let now = clock.now(rt)?;
+    ) -> io::Result<()>
+        ensures { Traces W.performs H.steps world.old handler.old world.new handler.new
+            (AllByRecursion IsAside) }
+    {
+        let now = world.now()?;
         let end = now.saturating_add(MAX_TURN);
         let mut transfers = self.transfers();
         for _slot in 0..self.slots.len() {
-            if self.first >= self.slots.len() {
-                self.first = 0;
-            }
-            let index = self.first;
-            self.first = index.saturating_add(1);
-            let is_busy = transfers >= MAX_TRANSFERS;
-            let has_gone_on = self.go_on_at(index, handler, buffer, now, is_busy);
-            if has_gone_on {
-                transfers = self.transfers();
-            }
-            if has_gone_on && clock.now(rt)? >= end {
+            if self.go_on_until(world, handler, buffer, now, end, &mut transfers)? {
                 return Ok(());
             }
         }
@@ -129,25 +131,72 @@ impl StreamTable {
         Ok(())
     }
 
-    /// Lets the connection at an index go on if it has something to do, and returns `true` if it had.
-    fn go_on_at<H: Handler>(
+    /// Lets the connection go on whose turn comes next, where so many have a reply of several messages that waits. Returns `true` if it
+    /// had something to do and the time is over.
+    fn go_on_until<W: World, H: Handler>(
         &mut self,
+        world: &mut W,
+        handler: &mut H,
+        buffer: &mut [u8],
+        now: Milliseconds,
+        end: Milliseconds,
+        transfers: &mut usize,
+    ) -> io::Result<bool>
+        ensures { Traces W.performs H.steps world.old handler.old world.new handler.new
+            (AllByRecursion IsAside) }
+    {
+        let is_busy = *transfers >= MAX_TRANSFERS;
+        if !self.go_on_next(world, handler, buffer, now, is_busy) {
+            return Ok(false);
+        }
+        *transfers = self.transfers();
+        Ok(world.now()? >= end)
+    }
+
+    /// Lets the connection go on whose turn comes next, if it has something to do, and returns `true` if it had.
+    fn go_on_next<W: World, H: Handler>(
+        &mut self,
+        world: &mut W,
+        handler: &mut H,
+        buffer: &mut [u8],
+        now: Milliseconds,
+        is_busy: bool,
+    ) -> bool
+        ensures { Traces W.performs H.steps world.old handler.old world.new handler.new
+            (AllByRecursion IsAside) }
+    {
+        if self.first >= self.slots.len() {
+            self.first = 0;
+        }
+        let index = self.first;
+        self.first = index.saturating_add(1);
+        self.go_on_at(world, index, handler, buffer, now, is_busy)
+    }
+
+    /// Lets the connection at an index go on if it has something to do, and returns `true` if it had.
+    fn go_on_at<W: World, H: Handler>(
+        &mut self,
+        world: &mut W,
         index: usize,
         handler: &mut H,
         buffer: &mut [u8],
         now: Milliseconds,
         is_busy: bool,
-    ) -> bool {
+    ) -> bool
+        ensures { Traces W.performs H.steps world.old handler.old world.new handler.new
+            (AllByRecursion IsAside) }
+    {
         if index >= self.slots.len() {
             return false;
         }
-        let slot = &mut self.slots[index];
-        let closes = match slot {
-            Some(stream) if stream.deadline() <= now => stream.go_on(handler, buffer, now, is_busy),
+        let closes = match &mut self.slots[index] {
+            Some(stream) if stream.deadline() <= now => {
+                stream.go_on(world, index, handler, buffer, now, is_busy)
+            }
             _ => return false,
         };
         if closes {
-            *slot = None;
+            self.close(world, index);
         }
         true
     }

@@ -59,6 +59,14 @@ struct Recorded {
 }
 
 impl Handler for DurableHandler<'_> {
+    ghost use Rattle.std.specs.Prelude.{⊤};
+    ghost use Rattle.dns_messages.specs.Header.{peeked_metadata};
+    ghost use Rattle.dns_durable.specs.Incoming.{is_update_header};
+
+    ghost gathers_after = { λ _ bytes. is_update_header (peeked_metadata bytes) };
+
+    ghost steps = { λ _ _ _. ⊤ };
+
     /// Updates that wait one after another are written to the disk together.
     fn gathers(&self, bytes: &[u8]) -> bool {
         is_update(bytes)

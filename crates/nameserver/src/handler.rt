@@ -27,6 +27,12 @@ pub(crate) struct LoggedServer<'a> {
 }
 
 impl Handler for LoggedServer<'_> {
+    ghost use Rattle.std.specs.Prelude.{false, ⊤};
+
+    ghost gathers_after = { λ _ _. false };
+
+    ghost steps = { λ _ _ _. ⊤ };
+
     /// A fault may close a connection, so that no request after it is answered.
     fn gathers(&self, _bytes: &[u8]) -> bool {
         false

@@ -3,13 +3,13 @@
 use crate::arguments::Arguments;
 use crate::ending::Ending;
 use crate::replay::{Part, make_all};
-use dns_sockets::{Handler, Milliseconds, Service, Until};
+use dns_sockets::{Handler, Milliseconds, Service, SocketWorld, Until};
 use std::time::Clock;
 
 /// Where requests come from.
 pub(crate) enum Source<'s> {
     /// Sockets, until something ends the service.
-    Sockets(Service, Until),
+    Sockets(Sockets<'s>, Until),
     /// A part of a script.
     Script(&'s Part),
 }
@@ -17,22 +17,29 @@ pub(crate) enum Source<'s> {
 impl Drop for Source<'_> {
     fn drop(self) {
         match self {
-            Source::Sockets(service, _until) => drop(service),
+            Source::Sockets(sockets, _until) => drop(sockets),
             Source::Script(_part) => {}
         }
     }
 }
 
+/// The sockets of a service.
+#[derive(Drop)]
+pub(crate) struct Sockets<'s> {
+    world: SocketWorld<'s, HostRuntime>,
+    service: Service,
+}
+
 impl<'s> Source<'s> {
     /// Takes a part of a script, if there is one; else opens the sockets that the arguments name, and prints a line for each address.
     pub(crate) fn open(
-        rt: &HostRuntime,
+        rt: &'s HostRuntime,
         arguments: &Arguments,
         part: Option<&'s Part>,
     ) -> Result<Source<'s>, Ending> {
         match part {
             Some(part) => Ok(Source::Script(part)),
-            None => Ok(Source::Sockets(open_service(rt, arguments)?, arguments.until)),
+            None => Ok(Source::Sockets(open_sockets(rt, arguments)?, arguments.until)),
         }
     }
 
@@ -51,9 +58,12 @@ impl<'s> Source<'s> {
         handler: &mut H,
     ) -> Result<String, Ending> {
         match self {
-            Source::Sockets(service, until) => {
-                let mut service = service;
-                match service.run(rt, handler, until) {
+            Source::Sockets(sockets, until) => {
+                let mut sockets = sockets;
+                if until == Until::InputEnds {
+                    sockets.world.end_with_input();
+                }
+                match sockets.service.run(&mut sockets.world, handler) {
                     Ok(()) => Ok(String::new(rt.alloc())),
                     Err(error) => Err(Ending::Failed(error)),
                 }
@@ -83,22 +93,24 @@ impl WallClock {
 }
 
 /// Opens the sockets, and prints a line for each address.
-fn open_service(rt: &HostRuntime, arguments: &Arguments) -> Result<Service, Ending> {
-    let mut service = match Service::new(rt, rt.alloc()) {
-        Ok(service) => service,
+fn open_sockets<'s>(rt: &'s HostRuntime, arguments: &Arguments) -> Result<Sockets<'s>, Ending> {
+    let mut world = match SocketWorld::new(rt, rt.alloc()) {
+        Ok(world) => world,
         Err(error) => return Err(Ending::Failed(error)),
     };
+    let mut service = Service::new(rt.alloc())?;
     let mut lines = String::new(rt.alloc());
     for address in arguments.addresses.as_slice() {
-        match service.listen(rt, *address) {
+        match world.listen(*address) {
             Ok(address) => {
                 lines.push_str(format!(in rt.alloc(); "listening on {address}\n")?.as_str())?;
             }
             Err(error) => return Err(Ending::CannotListen(*address, error)),
         }
+        service.add()?;
     }
     match rt.print(lines.as_str()) {
-        Ok(()) => Ok(service),
+        Ok(()) => Ok(Sockets { world, service }),
         Err(_) => Err(Ending::CannotPrint),
     }
 }

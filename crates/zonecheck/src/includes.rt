@@ -6,7 +6,7 @@ use crate::read_text;
 use dns_zone_file::included_names;
 use dns_zone_file::includes::included_path;
 use std::alloc::{AllocError, Global};
-use std::fs;
+use std::{fs, io};
 
 /// The most files that a zone file may include.
 const MAX_FILES: usize = 1000;
@@ -103,9 +103,12 @@ fn read_file(
     includes: &mut Includes,
 ) -> Result<(), Ending> {
     let place = match place_of(rt, path, name, arguments)? {
-        Some(place) if includes.texts.len() < MAX_FILES && is_there(rt, place.as_str()) => place,
+        Some(place) if includes.texts.len() < MAX_FILES => place,
         _ => return Ok(includes.leave_out(rt.alloc(), name)?),
     };
+    if !is_there(rt, place.as_str())? {
+        return Ok(includes.leave_out(rt.alloc(), name)?);
+    }
     match read_text(rt, place.as_str(), arguments)? {
         Some(text) => Ok(includes.add(rt.alloc(), name, place, text)?),
         None => Ok(includes.leave_out(rt.alloc(), name)?),
@@ -131,7 +134,14 @@ fn place_of(
     }
 }
 
-/// Returns `true` if a file can be read.
-fn is_there(rt: &HostRuntime, path: &str) -> bool {
-    fs::read(rt, path).is_ok()
+/// Returns `true` if a file can be read. Without memory that cannot be told.
+fn is_there(rt: &HostRuntime, path: &str) -> Result<bool, Ending> {
+    match fs::read(rt, path) {
+        Ok(_) => Ok(true),
+        Err(error) if error.kind() == io::ErrorKind::OutOfMemory => {
+            // Reading the file was refused memory.
+            Err(Ending::Memory)
+        }
+        Err(_) => Ok(false),
+    }
 }

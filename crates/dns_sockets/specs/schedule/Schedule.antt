@@ -46,3 +46,13 @@ due now (x ∷ xs) = if nat_le x.moment now then Some x.item else None
 abbrev pub left_at : {T : Type 0} → ℕ → List (Waiting T) → List (Waiting T)
 left_at now [] = []
 left_at now (x ∷ xs) = if nat_le x.moment now then xs else x ∷ xs
+
+-- the items whose moment has come, in order
+abbrev pub all_due : {T : Type 0} → ℕ → List (Waiting T) → List T
+all_due now [] = []
+all_due now (x ∷ xs) = if nat_le x.moment now then x.item ∷ all_due now xs else []
+
+-- the items that are left after these
+abbrev pub all_left : {T : Type 0} → ℕ → List (Waiting T) → List (Waiting T)
+all_left now [] = []
+all_left now (x ∷ xs) = if nat_le x.moment now then all_left now xs else x ∷ xs

@@ -1,0 +1,100 @@
+-- A turn in which two datagrams arrive, are handled together, and have their replies, one of them twice; then a third reply is not paid.
+use Rattle.std.proofs.Common.{◌≡◌, ◌+◌, ◌≤◌, ℕ, Bool, true, false, List, [], ◌∷◌, ◌++◌, map, Some, None, arith, inl, inr, refl, subst, sym}
+use Rattle.std.specs.Global.{Vec}
+use Rattle.std.specs.declared.net.socket_addr.SocketAddr.{SocketAddr}
+use Rattle.dns_faults.specs.declared.delivery.Delivery.{Delivery}
+use Rattle.dns_sockets.specs.Datagrams.{Gathers, Handle, Handles, IsTurn, Receive, TakesIf, are_handled, content_at, datagram_at, datagram_content}
+use Rattle.dns_sockets.specs.Handler.{Handled}
+use Rattle.dns_sockets.specs.Ledger.{AllPaid, Earns, Weight}
+use Rattle.dns_sockets.specs.Notices.{is_response}
+use Rattle.dns_sockets.specs.Trace.{Act, At, By, Socket}
+use Rattle.dns_sockets.specs.World.{Received, Sent, WorldEvent}
+use Rattle.dns_sockets.specs.declared.datagrams.Datagram.{Datagram}
+use Rattle.dns_sockets.specs.declared.datagrams.WaitingReply.{WaitingReply}
+use Rattle.dns_sockets.specs.schedule.Schedule.{ScheduleContent}
+use Rattle.dns_sockets.proofs.LedgerLaws.{turn_earns}
+
+module _ (first second : SocketAddr) (question reply other : Vec ℕ) (asks : is_response question.items ≡ false) where
+  abbrev none_waits : ScheduleContent WaitingReply
+  none_waits = record { items = []; capacity = 4096; pushed = 0 }
+
+  abbrev from : SocketAddr → Datagram
+  from peer = record { peer = peer; bytes = question }
+
+  abbrev once : Delivery
+  once = record { reply = Some reply; copies = 1; after_milliseconds = 0; close_after = None }
+
+  abbrev twice : Delivery
+  twice = record { reply = Some other; copies = 2; after_milliseconds = 0; close_after = None }
+
+  abbrev arrived : SocketAddr → List Act
+  arrived peer = At (Received 0 question.items peer) ∷ []
+
+  abbrev replies : List Act
+  replies =
+      By (Socket 0) (Handled (map (content_at 5) (from first ∷ from second ∷ [])) (Some (once ∷ twice ∷ [])))
+      ∷ At (Sent 0 reply.items first true) ∷ At (Sent 0 other.items second true) ∷ At (Sent 0 other.items second false) ∷ []
+
+  abbrev acts : List Act
+  acts = arrived first ++ arrived second ++ replies
+
+  handled : Handles 0 5 (from first ∷ from second ∷ []) none_waits replies none_waits
+  handled = (
+    Some (once ∷ twice ∷ []),
+    are_handled 5 (from first ∷ from second ∷ []) (Some (once ∷ twice ∷ [])) ∷ [],
+    Sent 0 reply.items first true ∷ Sent 0 other.items second true ∷ Sent 0 other.items second false ∷ [],
+    (
+      refl,
+      (
+        inl refl,
+        (
+          Sent 0 reply.items first true ∷ [],
+          Sent 0 other.items second true ∷ Sent 0 other.items second false ∷ [],
+          none_waits,
+          (
+            refl,
+            (
+              ((refl, ((refl, (refl, refl)), tt)), refl),
+              (
+                Sent 0 other.items second true ∷ Sent 0 other.items second false ∷ [],
+                [],
+                none_waits,
+                (refl, (((refl, ((refl, (refl, refl)), ((refl, (refl, refl)), tt))), refl), (refl, refl))),
+              ),
+            ),
+          ),
+        ),
+      ),
+    ),
+  )
+
+  gathers : (peer : SocketAddr) (old new : List Datagram) → map datagram_content new ≡ map datagram_content old ++ (peer, question.items) ∷ [] → Gathers (datagram_at question.items peer 5) old [] new
+  gathers peer old new added = (false, (subst (λ (b : Bool). TakesIf b (datagram_at question.items peer 5) [] false) (sym asks) (refl, refl), inr added))
+
+  turn : IsTurn 0 5 [] none_waits [] none_waits acts
+  turn = (
+    Receive (arrived first) ∷ Receive (arrived second) ∷ Handle replies ∷ [],
+    (
+      from first ∷ [],
+      arrived second ++ replies,
+      (
+        refl,
+        (
+          (Received 0 question.items first, [], (refl, (refl, gathers first [] (from first ∷ []) refl))),
+          (
+            from first ∷ from second ∷ [],
+            replies,
+            (refl, ((Received 0 question.items second, [], (refl, (refl, gathers second (from first ∷ []) (from first ∷ from second ∷ []) refl))), (none_waits, [], (refl, (handled, (refl, (refl, refl))))))),
+          ),
+        ),
+      ),
+    ),
+  )
+
+  -- the premise of the law is met
+  pub earned : Earns [] [] acts
+  earned = turn_earns 0 5 [] [] none_waits none_waits acts turn
+
+  -- with one for each datagram, a reply more is not paid: its conclusion says something
+  pub one_more_is_not_paid : AllPaid (record { of = λ socket peer bytes. 1; most = λ peer bytes. 1; bounded = λ socket peer bytes. omega arith }) 0 (acts ++ At (Sent 0 other.items second true) ∷ At (Sent 0 other.items second true) ∷ []) → ⊥
+  one_more_is_not_paid paid = let last = paid.1.1.1.1.1.1.1.0 in omega (arith, last)

@@ -1,0 +1,68 @@
+-- What a service does: what happens between it and the world, and what its handler does, in order.
+use Rattle.std.specs.Prelude.{◌≡◌, ◌⊎◌, ℕ, List, [], ◌∷◌, ⊤, Option}
+use Rattle.dns_sockets.specs.Handler.{HandlerEvent}
+use Rattle.dns_sockets.specs.World.{WorldEvent, Read, Received, Sent, Unreceived, Written}
+
+-- for what a handler is called: what arrived at the datagram socket of an index, or on the connection of an index, or nothing that arrived
+pub data Origin : Type 0 where
+  Socket : ℕ → Origin
+  Connection : ℕ → Origin
+  Nowhere : Origin
+
+-- one thing that a service does
+pub data Act : Type 0 where
+  At : WorldEvent → Act
+  By : Origin → HandlerEvent → Act
+
+-- these acts, one after another, lead a world and a handler from a state to another
+abbrev pub Leads : {S H : Type 0} → (S → WorldEvent → S → Type 0) → (H → HandlerEvent → H → Type 0) → S → H → List Act → S → H → Type 0
+Leads performs steps world handler [] new after = (world ≡ new) × (handler ≡ after)
+Leads {S} {H} performs steps world handler (At event ∷ acts) new after =
+    (mid : S) × (performs world event mid × Leads performs steps mid handler acts new after)
+Leads {S} {H} performs steps world handler (By origin event ∷ acts) new after =
+    (mid : H) × (steps handler event mid × Leads performs steps world mid acts new after)
+
+-- acts that lead a world and a handler from a state to another have P
+pub record Traces {S H : Type 0} (performs : S → WorldEvent → S → Type 0) (steps : H → HandlerEvent → H → Type 0) (world : S) (handler : H) (new : S) (after : H) (P : List Act → Type 0) : Type 0 where
+  pub acts : List Act
+  pub leads : Leads performs steps world handler acts new after
+  pub holds : P acts
+
+-- ---- what is no datagram
+
+-- an event at no datagram socket
+abbrev pub IsAsideEvent : WorldEvent → Type 0
+IsAsideEvent (Received socket bytes peer) = ⊥
+IsAsideEvent (Unreceived socket) = ⊥
+IsAsideEvent (Sent socket bytes peer is_taken) = ⊥
+IsAsideEvent event = ⊤
+
+-- a call of the handler for what arrived on a connection
+abbrev pub IsForStream : Origin → Type 0
+IsForStream (Connection index) = ⊤
+IsForStream origin = ⊥
+
+-- an act that is about no datagram
+abbrev pub IsAside : Act → Type 0
+IsAside (At event) = IsAsideEvent event
+IsAside (By origin event) = IsForStream origin
+
+-- an event of the connection of an index
+abbrev pub IsEventOf : ℕ → WorldEvent → Type 0
+IsEventOf index (Read stream bytes) = stream ≡ index
+IsEventOf index (Written stream bytes) = stream ≡ index
+IsEventOf index event = ⊥
+
+-- what arrived on the connection of an index
+abbrev pub IsFor : ℕ → Origin → Type 0
+IsFor index (Connection stream) = stream ≡ index
+IsFor index origin = ⊥
+
+-- an act that is about the connection of an index
+abbrev pub IsOfStream : ℕ → Act → Type 0
+IsOfStream index (At event) = IsEventOf index event
+IsOfStream index (By origin event) = IsFor index origin
+
+-- at most a read on the connection of an index
+abbrev pub MayRead : ℕ → List WorldEvent → Type 0
+MayRead index es = (es ≡ []) ⊎ ((bytes : Option (List ℕ)) × (es ≡ Read index bytes ∷ []))
