@@ -59,11 +59,13 @@ impl<'s> Source<'s> {
     ) -> Result<String, Ending> {
         match self {
             Source::Sockets(sockets, until) => {
-                let mut sockets = sockets;
+                let Sockets { world, service } = sockets;
+                let mut world = world;
+                let mut service = service;
                 if until == Until::InputEnds {
-                    sockets.world.end_with_input();
+                    world.end_with_input();
                 }
-                match sockets.service.run(&mut sockets.world, handler) {
+                match service.run(&mut world, handler) {
                     Ok(()) => Ok(String::new(rt.alloc())),
                     Err(error) => Err(Ending::Failed(error)),
                 }
