@@ -5,7 +5,7 @@ use Rattle.std.specs.declared.net.socket_addr.SocketAddr.{SocketAddr}
 use Rattle.dns_faults.specs.declared.delivery.Delivery.{Delivery}
 use Rattle.dns_sockets.specs.Datagrams.{Gathers, Handle, Handles, IsTurn, Receive, TakesIf, are_handled, content_at, datagram_at, datagram_content}
 use Rattle.dns_sockets.specs.Handler.{Handled}
-use Rattle.dns_sockets.specs.Ledger.{AllPaid, Earns, Weight}
+use Rattle.dns_sockets.specs.Ledger.{AllPaid, Earns, Weight, replies as counted, requests}
 use Rattle.dns_sockets.specs.Notices.{is_response}
 use Rattle.dns_sockets.specs.Trace.{Act, At, By, Socket}
 use Rattle.dns_sockets.specs.World.{Received, Sent, WorldEvent}
@@ -93,8 +93,12 @@ module _ (first second : SocketAddr) (question reply other : Vec ℕ) (asks : is
 
   -- the premise of the law is met
   pub earned : Earns [] [] acts
-  earned = turn_earns 0 5 [] [] none_waits none_waits acts turn
+  earned = turn_earns 0 5 none_waits none_waits acts turn
 
   -- with one for each datagram, a reply more is not paid: its conclusion says something
-  pub one_more_is_not_paid : AllPaid (record { of = λ socket peer bytes. 1; most = λ peer bytes. 1; bounded = λ socket peer bytes. omega arith }) 0 (acts ++ At (Sent 0 other.items second true) ∷ At (Sent 0 other.items second true) ∷ []) → ⊥
+  pub one_more_is_not_paid : AllPaid (counted (record { of = λ socket peer bytes. 1; most = λ peer bytes. 1; bounded = λ socket peer bytes. omega arith })) 0 (acts ++ At (Sent 0 other.items second true) ∷ At (Sent 0 other.items second true) ∷ []) → ⊥
   one_more_is_not_paid paid = let last = paid.1.1.1.1.1.1.1.0 in omega (arith, last)
+
+  -- and a request more was not there
+  pub one_more_had_not_arrived : AllPaid (requests (λ socket peer bytes. 1)) 0 (acts ++ By (Socket 0) (Handled (map (content_at 5) (from first ∷ [])) None) ∷ []) → ⊥
+  one_more_had_not_arrived paid = let last = paid.1.1.1.1.1.1.0 in omega (arith, last)

@@ -1,14 +1,29 @@
--- What the datagrams that a service sends are paid with: each reply is earned by a request that was handled, and sent no more often than
--- its delivery says.
+-- What the datagrams that a service sends are paid with: each request that is handled had arrived, and each reply is earned by a request
+-- that was handled, and sent no more often than its delivery says.
 use Rattle.std.specs.Prelude.{◌+◌, ◌-◌, ◌*◌, ◌≤◌, ⊤, true, false, ℕ, List, [], ◌∷◌, Option, Some, None}
 use Rattle.std.specs.Global.{Vec}
 use Rattle.std.specs.declared.net.socket_addr.SocketAddr.{SocketAddr}
 use Rattle.dns_faults.specs.declared.delivery.Delivery.{Delivery}
 use Rattle.dns_sockets.specs.Handler.{HandlerEvent, RequestContent, Handled, Noticed, Took, Transferred}
 use Rattle.dns_sockets.specs.Trace.{Act, At, By, Socket, Connection, Nowhere}
-use Rattle.dns_sockets.specs.World.{WorldEvent, Sent}
+use Rattle.dns_sockets.specs.World.{WorldEvent, Received, Sent}
 use Rattle.dns_sockets.specs.declared.datagrams.WaitingReply.{WaitingReply}
 use Rattle.dns_sockets.specs.schedule.Schedule.{Waiting}
+
+-- what each act costs, and what it brings
+pub record Book : Type 0 where
+  pub cost : Act → ℕ
+  pub gain : Act → ℕ
+
+-- Each act is paid with what is there and what the acts before it brought.
+abbrev pub AllPaid : Book → ℕ → List Act → Type 0
+AllPaid b credit [] = ⊤
+AllPaid b credit (act ∷ acts) = (b.cost act ≤ credit) × AllPaid b (credit - b.cost act + b.gain act) acts
+
+-- what is left
+abbrev pub left_of : Book → ℕ → List Act → ℕ
+left_of b credit [] = credit
+left_of b credit (act ∷ acts) = left_of b (credit - b.cost act + b.gain act) acts
 
 -- What a datagram counts that is sent to a peer from the socket of an index, and what one counts at most from any socket. With 1 for a
 -- datagram and 0 for all others, it is counted how often this one is sent.
@@ -62,15 +77,28 @@ gain f (By (Socket socket) event) = socket_gain f socket event
 gain f (By (Connection stream) event) = 0
 gain f (By Nowhere event) = notice_gain f event
 
--- Each act is paid with what is there and what the acts before it brought.
-abbrev pub AllPaid : Weight → ℕ → List Act → Type 0
-AllPaid f credit [] = ⊤
-AllPaid f credit (act ∷ acts) = (cost f act ≤ credit) × AllPaid f (credit - cost f act + gain f act) acts
+-- how replies are counted
+abbrev pub replies : Weight → Book
+replies f = record { cost = cost f; gain = gain f }
 
--- what is left
-abbrev pub left_of : Weight → ℕ → List Act → ℕ
-left_of f credit [] = credit
-left_of f credit (act ∷ acts) = left_of f (credit - cost f act + gain f act) acts
+-- what requests count that arrived at the socket of an index
+abbrev pub requests_worth : (SocketAddr → List ℕ → ℕ) → List RequestContent → ℕ
+requests_worth g [] = 0
+requests_worth g (r ∷ rs) = g r.peer r.bytes + requests_worth g rs
+
+-- what an act costs that handles requests
+abbrev pub handled_cost : (ℕ → SocketAddr → List ℕ → ℕ) → Act → ℕ
+handled_cost g (By (Socket socket) (Handled requests outcome)) = requests_worth (g socket) requests
+handled_cost g act = 0
+
+-- what a datagram brings that arrives
+abbrev pub arrived_gain : (ℕ → SocketAddr → List ℕ → ℕ) → Act → ℕ
+arrived_gain g (At (Received socket bytes peer)) = g socket peer bytes
+arrived_gain g act = 0
+
+-- how requests are counted, by what each counts that arrives at the socket of an index
+abbrev pub requests : (ℕ → SocketAddr → List ℕ → ℕ) → Book
+requests g = record { cost = handled_cost g; gain = arrived_gain g }
 
 -- what replies are worth that wait
 abbrev pub waiting_worth : Weight → List (Waiting WaitingReply) → ℕ
@@ -78,5 +106,14 @@ waiting_worth f [] = 0
 waiting_worth f (w ∷ ws) = w.item.copies * f.of w.item.socket w.item.peer w.item.bytes.items + waiting_worth f ws
 
 -- Where replies waited, and others wait after these acts: all acts are paid, and what waits then is paid, too.
+abbrev pub EarnsReplies : List (Waiting WaitingReply) → List (Waiting WaitingReply) → List Act → Type 0
+EarnsReplies old new acts =
+    (f : Weight) (credit : ℕ) → waiting_worth f old ≤ credit → AllPaid (replies f) credit acts × (waiting_worth f new ≤ left_of (replies f) credit acts)
+
+-- requests are handled that arrived, each at most once
+abbrev pub HandlesArrived : List Act → Type 0
+HandlesArrived acts = (g : ℕ → SocketAddr → List ℕ → ℕ) (credit : ℕ) → AllPaid (requests g) credit acts × (credit ≤ left_of (requests g) credit acts)
+
+-- both
 abbrev pub Earns : List (Waiting WaitingReply) → List (Waiting WaitingReply) → List Act → Type 0
-Earns old new acts = (f : Weight) (credit : ℕ) → waiting_worth f old ≤ credit → AllPaid f credit acts × (waiting_worth f new ≤ left_of f credit acts)
+Earns old new acts = EarnsReplies old new acts × HandlesArrived acts
