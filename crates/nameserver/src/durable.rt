@@ -1,10 +1,6 @@
 //! Zones with a journal.
 
-use crate::arguments::Arguments;
-use crate::ending::Ending;
-use crate::files::text_of;
-use crate::includes::refuse_includes;
-use crate::zones::{add_zone, milliseconds_since, read_zones, tell, zone_of};
+use crate::zones::{milliseconds_since, read_zones, tell};
 use dns_durable::recovery::{OpenError, Opened, open_journal};
 use dns_durable::{CompactError, DurableServer, Progress, ReplayError, replay};
 use dns_journal::files::FileStorage;
@@ -12,8 +8,9 @@ use dns_journal::format::{Link, ReadError};
 use dns_journal::{Journal, Position, State, Storage, StorageError, StoredFiles};
 use dns_server::Server;
 use dns_zone::Zone;
+use nameserver_cli::{Arguments, Ending, add_zone, refuse_includes, text_of, zone_of};
+use nameserver_handlers::{Unreplaced, draw_key, replace_text};
 use std::io;
-use std::random::RandomSource;
 use std::time::Instant;
 
 /// The position of a journal that keeps nothing.
@@ -37,13 +34,6 @@ const FORMER_HELP: &str =
     "An earlier version of this program wrote the journal. To keep its updates, let that version replace the zone file by the zone
 with its updates (--compact), and then remove the journal. To give the updates up, remove the journal. Nothing was changed.
 ";
-
-/// Draws the key of a journal at random.
-pub(crate) fn draw_key(rt: &HostRuntime) -> io::Result<[u8; 16]> {
-    let mut key = [0u8; 16];
-    rt.fill_bytes(&mut key)?;
-    Ok(key)
-}
 
 /// Reads the zones, and the updates of their journal, if there is one.
 pub(crate) fn open_durable<'a>(
@@ -132,7 +122,7 @@ fn server_of(
     let zone = stored_zone(rt, arguments, file, files)?;
     tell(rt, file, &zone, milliseconds_since(rt, start));
     let mut server = Server::new(rt.alloc());
-    add_zone(rt, &mut server, file, zone)?;
+    add_zone(rt.alloc(), &mut server, file, zone)?;
     Ok(server)
 }
 
@@ -144,8 +134,14 @@ fn stored_zone(
     files: &StoredFiles,
 ) -> Result<Zone, Ending> {
     let text = text_of(rt.alloc(), file, files.text.clone()?)?;
-    refuse_includes(rt, file, text.as_str())?;
-    zone_of(rt, file, text.as_str(), &[], arguments.origin.as_ref())
+    refuse_includes(rt.alloc(), file, text.as_str())?;
+    zone_of(
+        rt.alloc(),
+        file,
+        text.as_str(),
+        &[],
+        arguments.origin.as_ref(),
+    )
 }
 
 /// Opens the journal of files that were read, and serves its updates again. Standard error has a line for it.
@@ -243,76 +239,6 @@ fn storage_ending(
         Ok(path) => Ending::Journal(path, error),
         // Memory for the path was refused.
         Err(_) => Ending::Memory,
-    }
-}
-
-/// Why a zone file is not replaced.
-#[derive(Drop)]
-pub(crate) enum Unreplaced {
-    /// It was edited since it was read, or can't be read. The zone file and the journal are unchanged.
-    Edited(&'static str),
-    /// The new text can't be written beside it, or the key of a new journal can't be drawn. The zone file and the journal are
-    /// unchanged.
-    Unwritten(io::Error),
-    /// The zone has no text, or the journal failed.
-    Refused(CompactError),
-}
-
-/// Replaces the zone file by the zone with the updates of its journal. The journal and the zone file are as they were until the new text
-/// is on the disk.
-pub(crate) fn replace_text(
-    rt: &HostRuntime,
-    server: &mut DurableServer<FileStorage<'_>>,
-) -> Result<(), Unreplaced> {
-    unedited_text(&mut server.journal)?;
-    let rewritten = match server.rewrite(rt.alloc()) {
-        Ok(rewritten) => rewritten,
-        Err(error) => return Err(Unreplaced::Refused(error)),
-    };
-    prepare(&mut server.journal, rewritten.text.as_str())?;
-    let key = match draw_key(rt) {
-        Ok(key) => key,
-        Err(error) => {
-            server.journal.storage.discard_text();
-            return Err(Unreplaced::Unwritten(error));
-        }
-    };
-    match server.replace(rt.alloc(), key, rewritten) {
-        Ok(()) => Ok(()),
-        Err(error) => {
-            server.journal.storage.discard_text();
-            Err(Unreplaced::Refused(error))
-        }
-    }
-}
-
-/// Writes a text to a file beside the zone file, which was not edited until it is there.
-fn prepare(journal: &mut Journal<FileStorage<'_>>, text: &str) -> Result<(), Unreplaced> {
-    if journal.storage.prepare_text(text.as_bytes()).is_err() {
-        return Err(unwritten(&mut journal.storage));
-    }
-    match unedited_text(journal) {
-        Ok(()) => Ok(()),
-        Err(edited) => {
-            journal.storage.discard_text();
-            Err(edited)
-        }
-    }
-}
-
-/// Returns why a text can't be written beside the zone file.
-pub(crate) fn unwritten(storage: &mut FileStorage<'_>) -> Unreplaced {
-    let error = storage.take_error();
-    Unreplaced::Unwritten(error.unwrap_or(io::Error::from(io::ErrorKind::Other)))
-}
-
-/// Returns why the zone file is not to be replaced, if it was edited since it was read, or can't be read.
-pub(crate) fn unedited_text(journal: &mut Journal<FileStorage<'_>>) -> Result<(), Unreplaced> {
-    let Journal { storage, position } = journal;
-    match storage.is_unedited(position.digest.as_slice()) {
-        Ok(true) => Ok(()),
-        Ok(false) => Err(Unreplaced::Edited("the zone file was edited since it was read")),
-        Err(_) => Err(Unreplaced::Edited("the zone file can't be read")),
     }
 }
 

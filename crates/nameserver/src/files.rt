@@ -1,16 +1,14 @@
 //! Files that the program reads.
 
-use crate::ending::Ending;
 use dns_keys::is_exposed;
-use std::alloc::Global;
+use nameserver_cli::{Ending, text_of};
 use std::fs::File;
 use std::io::Read;
 use std::os::unix::fs::PermissionsExt;
 use std::{fs, io};
-use zone_check::{ReportFormat, encoding_report};
 
 /// Reads a file.
-pub(crate) fn read_file(rt: &HostRuntime, path: &str) -> Result<Vec<u8>, Ending> {
+fn read_file(rt: &HostRuntime, path: &str) -> Result<Vec<u8>, Ending> {
     match fs::read(rt, path) {
         Ok(bytes) => Ok(bytes),
         Err(error) if error.kind() == io::ErrorKind::OutOfMemory => {
@@ -19,6 +17,11 @@ pub(crate) fn read_file(rt: &HostRuntime, path: &str) -> Result<Vec<u8>, Ending>
         }
         Err(error) => Err(Ending::CannotRead(String::from_str(rt.alloc(), path)?, error)),
     }
+}
+
+/// Reads a file as text.
+pub(crate) fn read_text(rt: &HostRuntime, path: &str) -> Result<String, Ending> {
+    text_of(rt.alloc(), path, read_file(rt, path)?)
 }
 
 /// Reads a key file. If other users may read or write it, a line on standard error says so.
@@ -55,13 +58,4 @@ fn read_secrets(rt: &HostRuntime, path: &str) -> io::Result<Secrets> {
     let mut text = Vec::new(rt.alloc());
     file.read_to_end(&mut text)?;
     Ok(Secrets { text, mode })
-}
-
-/// Returns the text of a file, or where it is not UTF-8.
-pub(crate) fn text_of(alloc: Global, path: &str, bytes: Vec<u8>) -> Result<String, Ending> {
-    let report = encoding_report(alloc, ReportFormat::Text, path, bytes.as_slice())?;
-    match String::from_utf8(bytes) {
-        Ok(text) => Ok(text),
-        Err(_) => Err(Ending::Refused(report)),
-    }
 }

@@ -1,56 +1,38 @@
 //! `nameserver FILE.. [OPTIONS]`: serves the zones of zone files over UDP and TCP, takes dynamic updates, and makes faults on
 //! demand.
 //!
-//! - `arguments`: the arguments; `files`, `zones`, `includes`: the files; `handler`: what is done with a request; `log_file`: the log;
-//! - `durable_arguments`, `policy`: keys and grants; `durable`: zones with a journal; `durable_handler`: what is done with a request, if
-//!   there are keys or a journal;
-//! - `recording`: the differences that are kept; `transfers`: transfers of zones; `notices`: notifications of secondaries;
-//! - `source`: where requests come from; `replay`: requests that a script makes, in the place of sockets;
-//! - `unmatched`: rules and grants for names that no zone has;
-//! - `ending`: how the program ends.
+//! - `files`, `zones`, `includes`: the files that are read; `policy`: keys and grants; `durable`: zones with a journal;
+//! - `source`: where requests come from; `replay`: requests that a script makes, in the place of sockets.
+//!
+//! What the arguments and the files say is read by `nameserver_cli`, and what is done with a request is in `nameserver_handlers`.
 #![tactic(auto)]
 
-mod arguments;
-mod compaction;
 mod durable;
-mod durable_arguments;
-mod durable_handler;
-mod ending;
 mod files;
-mod handler;
 mod includes;
-mod log_file;
-mod notices;
 mod policy;
-mod recording;
 mod replay;
 mod source;
-mod transfers;
-mod unmatched;
 mod zones;
 
-use crate::arguments::{Arguments, ReplayMode, read_arguments};
 use crate::durable::{compact_and_end, open_durable};
-use crate::durable_handler::DurableHandler;
-use crate::ending::Ending;
-use crate::files::{read_file, text_of};
-use crate::handler::LoggedServer;
-use crate::log_file::LogFile;
-use crate::notices::Notices;
+use crate::files::read_text;
 use crate::policy::read_policy;
-use crate::recording::recorder_of;
-use crate::replay::{Part, Replay};
-use crate::source::{Source, WallClock};
-use crate::transfers::Transfers;
-use crate::unmatched::tell_unmatched;
+use crate::replay::{conclude, read_replay};
+use crate::source::Source;
 use crate::zones::{read_zones, read_zones_twice};
-use dns_authority::service::Answering;
 use dns_durable::DurableServer;
 use dns_faults::rules::{FaultTable, Service as FaultService};
-use dns_faults::table::{FaultTableError, parse_faults};
 use dns_journal::files::FileStorage;
 use dns_nameserver::{FormerZones, NameServer, ZoneServer};
 use dns_server::AddressList;
+use nameserver_cli::replay::{Part, Replay};
+use nameserver_cli::{Arguments, Ending, ReplayMode, faults_of, read_arguments};
+use nameserver_handlers::{
+    DurableHandler, LoggedServer, Notices, RequestLog, Transfers, WallClock, recorder_of,
+    tell_unmatched,
+};
+use std::fs::{File, OpenOptions};
 use std::process::ExitCode;
 use std::{env, io};
 
@@ -95,9 +77,9 @@ fn run_program(rt: &HostRuntime, arguments: Arguments) -> Result<(), Ending> {
 fn run_replays(rt: &HostRuntime, arguments: &Arguments) -> Result<(), Ending> {
     let mut is_met = true;
     for path in arguments.replay.as_slice() {
-        let replay = Replay::read(rt, path.as_str(), arguments.replay_mode)?;
+        let replay = read_replay(rt, path.as_str(), arguments.replay_mode)?;
         let printed = run_replay(rt, &replay)?;
-        is_met = replay.conclude(rt, printed.as_str())? && is_met;
+        is_met = conclude(rt, &replay, printed.as_str())? && is_met;
     }
     if is_met { Ok(()) } else { Err(Ending::Differs) }
 }
@@ -177,7 +159,7 @@ fn run_with_faults(
     let source = Source::open(rt, &arguments, part)?;
     let zones = server.zones.server.zones();
     let notices = Notices::new(rt, zones, arguments.notify.as_slice())?;
-    let recorder = recorder_of(rt.alloc(), zones, &arguments)?;
+    let recorder = recorder_of(rt.alloc(), zones, arguments.kept_differences())?;
     let (updaters, secondaries) = arguments.into_lists();
     server.updaters = updaters;
     let transfers = Transfers {
@@ -247,12 +229,12 @@ fn handler_of<'a>(
     rt: &'a HostRuntime,
     arguments: &Arguments,
     server: DurableServer<FileStorage<'a>>,
-) -> Result<DurableHandler<'a>, Ending> {
+) -> Result<DurableHandler<'a, HostRuntime, FileStorage<'a>, File>, Ending> {
     let zones = server.server.zones();
     let policy = read_policy(rt, arguments, zones)?;
     let log = open_log(rt, arguments)?;
     let notices = Notices::new(rt, zones, arguments.notify.as_slice())?;
-    let recorder = recorder_of(rt.alloc(), zones, arguments)?;
+    let recorder = recorder_of(rt.alloc(), zones, arguments.kept_differences())?;
     Ok(DurableHandler {
         rt,
         server,
@@ -326,7 +308,7 @@ fn fault_table(
 ) -> Result<FaultTable, Ending> {
     if let Some(part) = part {
         if let Some(rules) = &part.rules {
-            return faults_of(rt, RULES_NAME, rules.as_str());
+            return faults_of(rt.alloc(), RULES_NAME, rules.as_str());
         }
     }
     read_faults(rt, arguments)
@@ -347,24 +329,18 @@ fn read_faults(rt: &HostRuntime, arguments: &Arguments) -> Result<FaultTable, En
         return Ok(FaultTable::new(rt.alloc()));
     };
     let path = path.as_str();
-    let text = text_of(rt.alloc(), path, read_file(rt, path)?)?;
-    faults_of(rt, path, text.as_str())
+    let text = read_text(rt, path)?;
+    faults_of(rt.alloc(), path, text.as_str())
 }
 
-/// Returns the fault table of a text.
-fn faults_of(rt: &HostRuntime, path: &str, text: &str) -> Result<FaultTable, Ending> {
-    match parse_faults(rt.alloc(), text) {
-        Ok(table) => Ok(table),
-        // Memory was refused while the table was read.
-        Err(FaultTableError::Memory) => Err(Ending::Memory),
-        Err(error) => Err(Ending::Refused(format!(in rt.alloc(); "{path}: {error}\n")?)),
-    }
-}
-
-/// Opens the log, if one is given.
-fn open_log(rt: &HostRuntime, arguments: &Arguments) -> Result<Option<LogFile>, Ending> {
-    match &arguments.log {
-        Some(path) => Ok(Some(LogFile::open(rt, path.as_str())?)),
-        None => Ok(None),
+/// Opens the log, if one is given. What its file has stays.
+fn open_log(rt: &HostRuntime, arguments: &Arguments) -> Result<Option<RequestLog<File>>, Ending> {
+    let Some(path) = &arguments.log else {
+        return Ok(None);
+    };
+    let path = path.as_str();
+    match OpenOptions::new().append(true).create(true).open(rt, path) {
+        Ok(file) => Ok(Some(RequestLog::new(file))),
+        Err(error) => Err(Ending::CannotOpenLog(String::from_str(rt.alloc(), path)?, error)),
     }
 }

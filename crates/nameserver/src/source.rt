@@ -1,10 +1,9 @@
-//! Where requests come from, and the time of day.
+//! Where requests come from.
 
-use crate::arguments::Arguments;
-use crate::ending::Ending;
-use crate::replay::{Part, make_all};
-use dns_sockets::{Handler, Milliseconds, Service, SocketWorld, Until};
-use std::time::Clock;
+use dns_sockets::{Handler, Service, SocketWorld};
+use nameserver_cli::replay::Part;
+use nameserver_cli::{Arguments, Ending, Until};
+use nameserver_handlers::{WallClock, make_all};
 
 /// Where requests come from.
 pub(crate) enum Source<'s> {
@@ -70,26 +69,7 @@ impl<'s> Source<'s> {
                     Err(error) => Err(Ending::Failed(error)),
                 }
             }
-            Source::Script(part) => make_all(rt, part, handler),
-        }
-    }
-}
-
-/// The clock by which signatures are in time.
-#[derive(Clone, Copy)]
-pub(crate) enum WallClock {
-    /// That of the system.
-    System,
-    /// One that shows these seconds since 1970 at moment 0, and goes on with the moments of requests.
-    From(u64),
-}
-
-impl WallClock {
-    /// Returns the seconds since 1970 at the moment of a request. Without a clock they are 0, so that no signature is in time.
-    pub(crate) fn seconds(self, rt: &HostRuntime, moment: Milliseconds) -> u64 {
-        match self {
-            WallClock::System => rt.since_1970().map_or(0, |time| time.as_secs()),
-            WallClock::From(start) => start.saturating_add(moment / 1_000),
+            Source::Script(part) => Ok(make_all(rt.alloc(), part, handler)?),
         }
     }
 }

@@ -2,7 +2,7 @@
 
 use crate::ending::Ending;
 use crate::replay::request::{RequestFault, request_of};
-use dns_sockets::{Milliseconds, Transport};
+use dns_faults::rules::Transport;
 use std::alloc::{AllocError, Global};
 use std::net::{IpAddr, SocketAddr};
 
@@ -11,23 +11,23 @@ const DEFAULT_PORT: u16 = 53_000;
 
 /// The parts of a script.
 #[derive(Drop)]
-pub(crate) struct Script {
+pub struct Script {
     /// The parts: at least one, of which the first may have no words.
-    pub(crate) parts: Vec<Part>,
+    pub parts: Vec<Part>,
 }
 
 /// Requests to one server.
-pub(crate) struct Part {
+pub struct Part {
     /// The line of the server, as it is printed, or nothing for the server of the program's arguments.
-    pub(crate) line: Option<String>,
+    pub line: Option<String>,
     /// The arguments of the server, without the program's name.
-    pub(crate) words: Vec<String>,
+    pub words: Vec<String>,
     /// The fault table of the server, if its line states rules.
-    pub(crate) rules: Option<String>,
+    pub rules: Option<String>,
     /// The seconds since 1970 at moment 0.
-    pub(crate) start: u64,
+    pub start: u64,
     /// The events, whose moments do not fall.
-    pub(crate) events: Vec<Event>,
+    pub events: Vec<Event>,
 }
 
 impl Drop for Part {
@@ -47,19 +47,19 @@ impl Drop for Part {
 }
 
 /// A request that arrives.
-pub(crate) struct Event {
+pub struct Event {
     /// Its line, as it is printed.
-    pub(crate) line: String,
-    /// When it arrives.
-    pub(crate) moment: Milliseconds,
+    pub line: String,
+    /// When it arrives, in milliseconds.
+    pub moment: u64,
     /// From where it is sent.
-    pub(crate) peer: SocketAddr,
+    pub peer: SocketAddr,
     /// How it arrives.
-    pub(crate) transport: Transport,
+    pub transport: Transport,
     /// The message.
-    pub(crate) bytes: Vec<u8>,
+    pub bytes: Vec<u8>,
     /// Whether the message was given as bytes, so that replies are printed as bytes.
-    pub(crate) is_raw: bool,
+    pub is_raw: bool,
 }
 
 impl Drop for Event {
@@ -104,7 +104,7 @@ impl From<AllocError> for LineFault {
 }
 
 /// Parses a script. Empty lines and lines that begin with `#` are skipped.
-pub(crate) fn parse_script(alloc: Global, path: &str, text: &str) -> Result<Script, Ending> {
+pub fn parse_script(alloc: Global, path: &str, text: &str) -> Result<Script, Ending> {
     let mut parts = Vec::new(alloc);
     let mut part = empty_part(alloc);
     let mut number: usize = 0;

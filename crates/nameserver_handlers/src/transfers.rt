@@ -1,7 +1,7 @@
 //! Transfers of zones.
 
-use crate::log_file::LogFile;
-use crate::source::WallClock;
+use crate::clock::WallClock;
+use crate::request_log::RequestLog;
 use dns_faults::Delivery;
 use dns_nameserver::Answered;
 use dns_server::AddressList;
@@ -9,40 +9,42 @@ use dns_sockets::{Request, Transport as RequestTransport};
 use dns_transfers::replies::{Terms, ZoneHistory, may_ask_by_datagram, transfer_reply};
 use dns_tsig::Key;
 use dns_zone::{Transport, Zone};
-use std::alloc::AllocError;
+use std::alloc::{AllocError, Global};
+use std::io::{Eprint, Write};
+use std::time::Clock;
 
 /// What is transferred.
 #[derive(Clone, Copy)]
-pub(crate) struct Sources<'a> {
+pub struct Sources<'a> {
     /// The zones.
-    pub(crate) zones: &'a [Zone],
+    pub zones: &'a [Zone],
     /// Their last differences.
-    pub(crate) histories: &'a [ZoneHistory],
+    pub histories: &'a [ZoneHistory],
     /// The keys with which requests may be signed.
-    pub(crate) keys: &'a [Key],
+    pub keys: &'a [Key],
 }
 
 /// To whom zones are transferred.
 #[derive(Drop)]
-pub(crate) struct Transfers {
+pub struct Transfers {
     /// Whether transfers are offered. If not, requests for them are questions like any others.
-    pub(crate) are_offered: bool,
+    pub are_offered: bool,
     /// The addresses to which zones are transferred.
-    pub(crate) secondaries: AddressList,
+    pub secondaries: AddressList,
     /// The clock by which signatures are in time.
-    pub(crate) clock: WallClock,
+    pub clock: WallClock,
 }
 
 impl Transfers {
     /// Returns the messages of the reply to a request for a transfer over a stream, and logs it. While many transfers wait to be
     /// written, a further one is refused.
-    pub(crate) fn over_stream(
+    pub fn over_stream<R: AllocGlobal + Clock + Eprint, W: Write>(
         &self,
-        rt: &HostRuntime,
+        rt: &R,
         sources: Sources<'_>,
         request: &Request<'_>,
         is_busy: bool,
-        log: &mut Option<LogFile>,
+        log: &mut Option<RequestLog<W>>,
     ) -> Result<Option<Vec<Vec<u8>>>, AllocError> {
         if !self.are_offered {
             return Ok(None);
@@ -53,7 +55,7 @@ impl Transfers {
             is_permitted,
             time: self.clock.seconds(rt, request.moment),
         };
-        let found = reply_to(rt, sources, request, &terms)?;
+        let found = reply_to(rt.alloc(), sources, request, &terms)?;
         if let (Some(messages), Some(log)) = (&found, log) {
             log_first(rt, log, request, messages.as_slice())?;
         }
@@ -61,9 +63,9 @@ impl Transfers {
     }
 
     /// Returns the reply to a request for an incremental transfer in a datagram.
-    pub(crate) fn by_datagram(
+    pub fn by_datagram<R: AllocGlobal + Clock>(
         &self,
-        rt: &HostRuntime,
+        rt: &R,
         sources: Sources<'_>,
         request: &Request<'_>,
         transport: Transport,
@@ -78,7 +80,7 @@ impl Transfers {
             is_permitted: self.secondaries.contains(request.peer.ip()),
             time: self.clock.seconds(rt, request.moment),
         };
-        match reply_to(rt, sources, request, &terms)? {
+        match reply_to(rt.alloc(), sources, request, &terms)? {
             Some(mut messages) => Ok(messages.pop()),
             None => Ok(None),
         }
@@ -87,7 +89,7 @@ impl Transfers {
 
 /// Returns the messages of the reply to a request for a transfer.
 fn reply_to(
-    rt: &HostRuntime,
+    alloc: Global,
     sources: Sources<'_>,
     request: &Request<'_>,
     terms: &Terms,
@@ -97,13 +99,13 @@ fn reply_to(
         histories,
         keys,
     } = sources;
-    transfer_reply(rt.alloc(), zones, histories, keys, request.bytes, terms)
+    transfer_reply(alloc, zones, histories, keys, request.bytes, terms)
 }
 
 /// Logs a request with the first message of its reply.
-fn log_first(
-    rt: &HostRuntime,
-    log: &mut LogFile,
+fn log_first<R: AllocGlobal + Eprint, W: Write>(
+    rt: &R,
+    log: &mut RequestLog<W>,
     request: &Request<'_>,
     messages: &[Vec<u8>],
 ) -> Result<(), AllocError> {

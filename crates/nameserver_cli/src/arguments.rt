@@ -8,7 +8,6 @@ use dns_authority::AnyAnswer;
 use dns_authority::service::Answering;
 use dns_names::{AddrPrefix, Name, ParseError};
 use dns_server::{AddressList, parse_prefix};
-use dns_sockets::Until;
 use dns_zone::{DatagramLimit, Serials};
 use dns_zone_file::includes::Reach;
 use std::alloc::{AllocError, Global};
@@ -25,7 +24,7 @@ const VERSION: &str = "0.1.0";
 
 /// What is done with what the events of a script led to.
 #[derive(Clone, Copy)]
-pub(crate) enum ReplayMode {
+pub enum ReplayMode {
     /// It is printed.
     Print,
     /// It is compared with the expectations in the script.
@@ -34,40 +33,49 @@ pub(crate) enum ReplayMode {
     Bless,
 }
 
+/// What ends the server, besides a signal.
+#[derive(Clone, Copy, Debug, PartialEq, Eq)]
+pub enum Until {
+    /// Nothing.
+    Signal,
+    /// The end of standard input, which is at its end if it is a file.
+    InputEnds,
+}
+
 /// The arguments of the program.
-pub(crate) struct Arguments {
+pub struct Arguments {
     /// The paths of the zone files, as given: at least one.
-    pub(crate) files: Vec<String>,
+    pub files: Vec<String>,
     /// The addresses at which the server listens.
-    pub(crate) addresses: Vec<SocketAddr>,
+    pub addresses: Vec<SocketAddr>,
     /// The addresses from which updates are taken.
-    pub(crate) updaters: AddressList,
+    pub updaters: AddressList,
     /// How requests are answered that are not updates.
-    pub(crate) answering: Answering,
+    pub answering: Answering,
     /// The addresses to which zones are transferred.
-    pub(crate) secondaries: AddressList,
+    pub secondaries: AddressList,
     /// How many records of differences are kept of each zone, at most.
-    pub(crate) differences: usize,
+    pub differences: usize,
     /// The secondaries that are notified of changes.
-    pub(crate) notify: Vec<SocketAddr>,
+    pub notify: Vec<SocketAddr>,
     /// The maximum size of datagrams.
-    pub(crate) limit: DatagramLimit,
+    pub limit: DatagramLimit,
     /// Which files the zone files may include.
-    pub(crate) reach: Reach,
+    pub reach: Reach,
     /// What ends the server.
-    pub(crate) until: Until,
+    pub until: Until,
     /// The origin of the zone, if there is one zone file.
-    pub(crate) origin: Option<Name>,
+    pub origin: Option<Name>,
     /// The path of the fault table, as given.
-    pub(crate) faults: Option<String>,
+    pub faults: Option<String>,
     /// The path of the log, as given.
-    pub(crate) log: Option<String>,
+    pub log: Option<String>,
     /// What is given of keys and of a journal.
-    pub(crate) durable: DurableArguments,
+    pub durable: DurableArguments,
     /// The paths of the scripts that are replayed in the place of sockets, as given.
-    pub(crate) replay: Vec<String>,
+    pub replay: Vec<String>,
     /// What is done with what its events led to.
-    pub(crate) replay_mode: ReplayMode,
+    pub replay_mode: ReplayMode,
 }
 
 impl Drop for Arguments {
@@ -105,7 +113,7 @@ impl Drop for Arguments {
 
 impl Arguments {
     /// Returns `true` if transfers are offered: not if each question is answered by its zone alone.
-    pub(crate) fn offers_transfers(&self) -> bool {
+    pub fn offers_transfers(&self) -> bool {
         match self.answering {
             Answering::Plain => false,
             Answering::Whole(_, _) => true,
@@ -113,7 +121,7 @@ impl Arguments {
     }
 
     /// Returns `true` if secondaries are notified of updates that a restart loses: there is no journal.
-    pub(crate) fn loses_serials(&self) -> bool {
+    pub fn loses_serials(&self) -> bool {
         !self.notify.is_empty() && self.durable.journal.is_none() && self.takes_updates()
     }
 
@@ -122,8 +130,17 @@ impl Arguments {
         !self.durable.keys.is_empty() || self.updaters.contains(IpAddr::V4(Ipv4Addr::LOCALHOST))
     }
 
+    /// Returns how many records of differences are kept of each zone, at most: none if transfers are not offered.
+    pub fn kept_differences(&self) -> usize {
+        if self.offers_transfers() {
+            self.differences
+        } else {
+            0
+        }
+    }
+
     /// Returns the addresses from which updates are taken, and those to which zones are transferred.
-    pub(crate) fn into_lists(self) -> (AddressList, AddressList) {
+    pub fn into_lists(self) -> (AddressList, AddressList) {
         let Arguments {
             files,
             addresses,
@@ -155,7 +172,7 @@ impl Arguments {
 }
 
 /// Reads the arguments, of which the first is the program's name.
-pub(crate) fn read_arguments(alloc: Global, words: &[&str]) -> Result<Arguments, Ending> {
+pub fn read_arguments(alloc: Global, words: &[&str]) -> Result<Arguments, Ending> {
     let command = command(alloc, !names_script(words))?;
     let matches = match command.try_get_matches_from(words) {
         Ok(matches) => matches,

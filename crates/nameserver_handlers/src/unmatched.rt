@@ -3,9 +3,10 @@
 use dns_faults::rules::{FaultTable, NamePattern, Rule};
 use dns_names::Name;
 use dns_zone::Zone;
+use std::io::Eprint;
 
 /// Says on standard error which rules of a fault table match no name of the zones: most often the name lacks that of its zone.
-pub(crate) fn tell_unmatched(rt: &HostRuntime, path: &str, table: &FaultTable, zones: &[Zone]) {
+pub fn tell_unmatched<R: Eprint>(rt: &R, path: &str, table: &FaultTable, zones: &[Zone]) {
     for counted in table.rules() {
         let names = &counted.rule.names;
         if !zones.iter().any(|zone| may_match(names, zone.origin())) {
@@ -29,7 +30,7 @@ pub(crate) fn overlaps(subtree: &Name, origin: &Name) -> bool {
 }
 
 /// Says that a rule matches no name of the zones, and what was probably meant.
-fn tell_rule(rt: &HostRuntime, path: &str, rule: &Rule, zones: &[Zone]) {
+fn tell_rule<R: Eprint>(rt: &R, path: &str, rule: &Rule, zones: &[Zone]) {
     let line = rule.line;
     let (mark, name) = match &rule.names {
         NamePattern::Any => return,

@@ -12,17 +12,17 @@ const DEFAULT_LIMIT: usize = 16_777_216;
 const LEAST_LIMIT: usize = 4_096;
 
 /// What is given of keys and of a journal.
-pub(crate) struct DurableArguments {
+pub struct DurableArguments {
     /// The path of the journal, as given.
-    pub(crate) journal: Option<String>,
+    pub journal: Option<String>,
     /// The length of the journal from which on it is begun anew, in bytes.
-    pub(crate) journal_limit: usize,
+    pub journal_limit: usize,
     /// Whether the zone file is to be replaced by the zone with its updates, and nothing else.
-    pub(crate) compact: bool,
+    pub compact: bool,
     /// The paths of the key files, as given.
-    pub(crate) keys: Vec<String>,
+    pub keys: Vec<String>,
     /// The grants, as given.
-    pub(crate) grants: Vec<String>,
+    pub grants: Vec<String>,
 }
 
 impl Drop for DurableArguments {
@@ -42,7 +42,7 @@ impl Drop for DurableArguments {
 
 impl DurableArguments {
     /// Returns `true` if there is a journal, a key or a grant.
-    pub(crate) fn is_given(&self) -> bool {
+    pub fn is_given(&self) -> bool {
         self.journal.is_some() || !self.keys.is_empty() || !self.grants.is_empty()
     }
 }

@@ -1,6 +1,5 @@
 //! The differences that are kept of zones, for incremental transfers (RFC 1995 section 5).
 
-use crate::arguments::Arguments;
 use dns_differences::Limits;
 use dns_transfers::replies::Recorder;
 use dns_zone::Zone;
@@ -12,16 +11,12 @@ const MAX_DIFFERENCES: usize = 1_000;
 /// How many octets the records of a zone's differences have at most without compression: 64 MiB.
 const MAX_OCTETS: usize = 67_108_864;
 
-/// Returns what keeps differences of zones, if any are sent.
-pub(crate) fn recorder_of(
-    alloc: Global,
-    zones: &[Zone],
-    arguments: &Arguments,
-) -> Result<Recorder, AllocError> {
-    let limits = if arguments.offers_transfers() && arguments.differences > 0 {
+/// Returns what keeps differences of zones that have a number of records at most, or none if that is 0.
+pub fn recorder_of(alloc: Global, zones: &[Zone], records: usize) -> Result<Recorder, AllocError> {
+    let limits = if records > 0 {
         Some(Limits {
             differences: MAX_DIFFERENCES,
-            records: arguments.differences,
+            records,
             octets: MAX_OCTETS,
         })
     } else {

@@ -1,32 +1,34 @@
 //! What the program does with requests, if it makes faults.
 
-use crate::log_file::LogFile;
+use crate::host::Host;
 use crate::notices::Notices;
+use crate::request_log::RequestLog;
 use crate::transfers::{Sources, Transfers};
 use dns_faults::Delivery;
 use dns_nameserver::{Answered, NameServer, reply_transport};
 use dns_sockets::{Handler, Milliseconds, Notice, Request};
 use dns_transfers::replies::Recorder;
 use std::alloc::AllocError;
+use std::io::Write;
 
 /// Answers requests by a name server, and logs them.
 #[derive(Drop)]
-pub(crate) struct LoggedServer<'a> {
-    /// The runtime.
-    pub(crate) rt: &'a HostRuntime,
+pub struct LoggedServer<'a, R, W> {
+    /// The system.
+    pub rt: &'a R,
     /// The name server.
-    pub(crate) server: NameServer,
+    pub server: NameServer,
     /// What keeps the last differences of each zone.
-    pub(crate) recorder: Recorder,
+    pub recorder: Recorder,
     /// To whom zones are transferred.
-    pub(crate) transfers: Transfers,
+    pub transfers: Transfers,
     /// The notifications of secondaries.
-    pub(crate) notices: Notices,
+    pub notices: Notices,
     /// The log, if there is one.
-    pub(crate) log: Option<LogFile>,
+    pub log: Option<RequestLog<W>>,
 }
 
-impl Handler for LoggedServer<'_> {
+impl<R: Host, W: Write> Handler for LoggedServer<'_, R, W> {
     ghost use Rattle.std.specs.Prelude.{false, ⊤};
 
     ghost gathers_after = { λ _ _. false };
@@ -69,11 +71,11 @@ impl Handler for LoggedServer<'_> {
     }
 
     fn next_notice(&mut self, now: Milliseconds) -> Option<Notice> {
-        self.notices.next_notice(self.rt, now)
+        self.notices.next_notice(self.rt.alloc(), now)
     }
 }
 
-impl LoggedServer<'_> {
+impl<R: Host, W: Write> LoggedServer<'_, R, W> {
     /// Answers a request, and logs it.
     fn answer(&mut self, request: &Request<'_>) -> Result<Delivery, AllocError> {
         let answered = self.answered(request)?;

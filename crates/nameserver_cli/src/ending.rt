@@ -6,7 +6,7 @@ use std::{fmt, io};
 
 /// Why the program ends, if no signal and no end of its standard input ends it.
 #[derive(Debug, Drop)]
-pub(crate) enum Ending {
+pub enum Ending {
     /// The arguments are invalid, or ask for help or the version. The error's text says which.
     Arguments(clap::Error),
     /// The value of an option is invalid: a line says why.
@@ -49,7 +49,7 @@ impl<T: Drop> From<AllocFailed<T>> for Ending {
 
 impl Ending {
     /// Creates the ending for an invalid value of an option.
-    pub(crate) fn invalid(alloc: Global, option: &str, value: &str, reason: &str) -> Ending {
+    pub fn invalid(alloc: Global, option: &str, value: &str, reason: &str) -> Ending {
         match format!(in alloc; "invalid value '{value}' for '--{option}': {reason}") {
             Ok(line) => Ending::InvalidValue(line),
             // Memory for the line was refused.
@@ -58,7 +58,7 @@ impl Ending {
     }
 
     /// Returns `true` if the program was asked for its help or its version, which go to standard output.
-    pub(crate) fn is_answer(&self) -> bool {
+    pub fn is_answer(&self) -> bool {
         match self {
             Ending::Arguments(error) => !error.use_stderr(),
             _ => false,
@@ -67,7 +67,7 @@ impl Ending {
 
     /// Returns the exit status: 2 if the arguments are at fault, otherwise 1. Of a comparison, 1 says that a script expects something
     /// else, and 2 that it was not compared.
-    pub(crate) fn status(&self, is_comparison: bool) -> u8 {
+    pub fn status(&self, is_comparison: bool) -> u8 {
         match self {
             Ending::Arguments(_) | Ending::InvalidValue(_) | Ending::NotUtf8 => 2,
             Ending::Differs => 1,

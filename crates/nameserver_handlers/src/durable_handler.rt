@@ -1,52 +1,54 @@
 //! What the program does with requests, if there are keys or a journal.
 
 use crate::compaction::{Stage, begin_compaction, continue_compaction};
-use crate::durable::Unreplaced;
-use crate::log_file::LogFile;
+use crate::host::Host;
 use crate::notices::Notices;
+use crate::replacement::Unreplaced;
+use crate::request_log::RequestLog;
+use crate::text_file::TextFile;
 use crate::transfers::{Sources, Transfers};
 use dns_durable::{
     CompactError, DurableServer, Incoming, Policy, Progress, Reply, Terms, is_update,
 };
 use dns_faults::Delivery;
 use dns_journal::State;
-use dns_journal::files::FileStorage;
 use dns_nameserver::{Answered, has_changed, reply_transport, updates_of};
 use dns_server::AddressList;
 use dns_sockets::{Handler, Milliseconds, Notice, Request};
 use dns_transfers::replies::Recorder;
 use dns_zone::DatagramLimit;
 use std::alloc::AllocError;
+use std::io::Write;
 
 /// Answers requests by a server whose updates outlast a crash, and logs them.
 #[derive(Drop)]
-pub(crate) struct DurableHandler<'a> {
-    /// The runtime.
-    pub(crate) rt: &'a HostRuntime,
+pub struct DurableHandler<'a, R, S: TextFile, W> {
+    /// The system.
+    pub rt: &'a R,
     /// The server.
-    pub(crate) server: DurableServer<FileStorage<'a>>,
+    pub server: DurableServer<S>,
     /// Who may update its zones.
-    pub(crate) policy: Policy,
+    pub policy: Policy,
     /// The maximum size of datagrams.
-    pub(crate) limit: DatagramLimit,
+    pub limit: DatagramLimit,
     /// The addresses from which updates are taken without a key.
-    pub(crate) updaters: AddressList,
+    pub updaters: AddressList,
     /// What keeps the last differences of each zone.
-    pub(crate) recorder: Recorder,
+    pub recorder: Recorder,
     /// To whom zones are transferred.
-    pub(crate) transfers: Transfers,
+    pub transfers: Transfers,
     /// The notifications of secondaries.
-    pub(crate) notices: Notices,
+    pub notices: Notices,
     /// The length of the journal from which on it is begun anew.
-    pub(crate) journal_limit: usize,
+    pub journal_limit: usize,
     /// The length of the journal from which on that is tried again, after a failure.
-    pub(crate) retry_limit: usize,
+    pub retry_limit: usize,
     /// The log, if there is one.
-    pub(crate) log: Option<LogFile>,
+    pub log: Option<RequestLog<W>>,
     /// Whether the journal was looked after since the last request.
-    pub(crate) is_tended: bool,
+    pub is_tended: bool,
     /// Whether a failure of the journal was told.
-    pub(crate) has_failed: bool,
+    pub has_failed: bool,
 }
 
 /// The reply to a request, once its change is recorded.
@@ -58,7 +60,7 @@ struct Recorded {
     has_updated: bool,
 }
 
-impl Handler for DurableHandler<'_> {
+impl<R: Host, S: TextFile, W: Write> Handler for DurableHandler<'_, R, S, W> {
     ghost use Rattle.std.specs.Prelude.{⊤};
     ghost use Rattle.dns_messages.specs.Header.{peeked_metadata};
     ghost use Rattle.dns_durable.specs.Incoming.{is_update_header};
@@ -115,7 +117,7 @@ impl Handler for DurableHandler<'_> {
 
     /// Once all replies and notifications are sent, the journal is looked after, and a compaction goes on by a step.
     fn next_notice(&mut self, now: Milliseconds) -> Option<Notice> {
-        let notice = self.notices.next_notice(self.rt, now);
+        let notice = self.notices.next_notice(self.rt.alloc(), now);
         if notice.is_none() && (!self.is_tended || self.is_compacting()) {
             self.is_tended = true;
             self.tend_journal();
@@ -124,7 +126,7 @@ impl Handler for DurableHandler<'_> {
     }
 }
 
-impl DurableHandler<'_> {
+impl<R: Host, S: TextFile, W: Write> DurableHandler<'_, R, S, W> {
     /// Returns the replies to requests that arrived together, and records what these have changed.
     fn respond(
         &mut self,

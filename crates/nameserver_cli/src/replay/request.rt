@@ -19,16 +19,16 @@ const SEPARATOR: &str = " ; ";
 
 /// A message, as bytes.
 #[derive(Drop)]
-pub(crate) struct RequestBytes {
+pub struct RequestBytes {
     /// The bytes.
-    pub(crate) bytes: Vec<u8>,
+    pub bytes: Vec<u8>,
     /// Whether they were given as they are.
-    pub(crate) is_raw: bool,
+    pub is_raw: bool,
 }
 
 /// Why words are no request.
 #[derive(Clone, Copy)]
-pub(crate) enum RequestFault {
+pub enum RequestFault {
     /// The first word names no kind of request.
     Kind,
     /// What follows `hex` is not bytes in hexadecimal digits.
@@ -53,7 +53,7 @@ pub(crate) enum RequestFault {
 
 impl RequestFault {
     /// Returns what is said of the fault.
-    pub(crate) fn reason(self) -> &'static str {
+    pub fn reason(self) -> &'static str {
         match self {
             RequestFault::Kind => {
                 "no request: write `query NAME TYPE`, `update ZONE CHANGE ; CHANGE`, `axfr ZONE`, `ixfr ZONE SERIAL`, `message DIGITS` or `hex DIGITS`"
@@ -81,7 +81,7 @@ impl From<AllocError> for RequestFault {
 }
 
 /// Returns the message of a request: bytes after `hex` or `message`, or else words.
-pub(crate) fn request_of(alloc: Global, text: &str) -> Result<RequestBytes, RequestFault> {
+pub fn request_of(alloc: Global, text: &str) -> Result<RequestBytes, RequestFault> {
     let (kind, rest) = first_word(text);
     let is_raw = kind == "hex";
     let bytes = if is_raw || kind == "message" {

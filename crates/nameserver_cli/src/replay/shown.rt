@@ -3,15 +3,15 @@
 use crate::replay::script::Event;
 use dns_faults::Delivery;
 use dns_messages::{Edns, Message, Metadata, Query, Record};
-use dns_sockets::{Milliseconds, Notice};
 use dns_wire::DecodeError;
 use dns_zone_file::Types;
 use dns_zone_file::record_texts::{OwnerText, RecordText, TypeText};
 use std::alloc::{AllocError, Global};
 use std::fmt;
+use std::net::SocketAddr;
 
 /// Prints what a request led to.
-pub(crate) fn show_answered(
+pub fn show_answered(
     alloc: Global,
     event: &Event,
     delivery: &Delivery,
@@ -29,7 +29,7 @@ pub(crate) fn show_answered(
 }
 
 /// Prints the messages of the reply to a request for a transfer.
-pub(crate) fn show_messages(
+pub fn show_messages(
     alloc: Global,
     event: &Event,
     messages: &[Vec<u8>],
@@ -45,16 +45,16 @@ pub(crate) fn show_messages(
     Ok(())
 }
 
-/// Prints a datagram that is sent without a request.
-pub(crate) fn show_notice(
+/// Prints a datagram that is sent to an address without a request, at a moment in milliseconds.
+pub fn show_notice(
     alloc: Global,
-    moment: Milliseconds,
-    notice: &Notice,
+    moment: u64,
+    peer: SocketAddr,
+    bytes: &[u8],
     printed: &mut String,
 ) -> Result<(), AllocError> {
-    let peer = notice.peer;
     printed.push_str(format!(in alloc; "{moment} to {peer}:")?.as_str())?;
-    show_message(alloc, false, notice.bytes.as_slice(), printed)
+    show_message(alloc, false, bytes, printed)
 }
 
 /// Prints a message, as bytes if that is asked for or if it cannot be decoded.

@@ -1,9 +1,10 @@
 //! The zone file takes the place of a journal, a step at a time.
 
-use crate::durable::{Unreplaced, draw_key, replace_text, unedited_text, unwritten};
+use crate::replacement::{Unreplaced, draw_key, replace_text, unedited_text, unwritten};
+use crate::text_file::TextFile;
 use dns_durable::{CompactError, DraftFault, DurableServer, Progress};
-use dns_journal::files::FileStorage;
 use dns_journal::{AppendError, State};
+use std::random::RandomSource;
 
 /// How many records are written or looked at in a step.
 const RECORDS: usize = 4_000;
@@ -21,9 +22,9 @@ pub(crate) enum Stage {
 }
 
 /// Begins to replace the zone file by the zone with the updates of its journal.
-pub(crate) fn begin_compaction(
-    rt: &HostRuntime,
-    server: &mut DurableServer<FileStorage<'_>>,
+pub(crate) fn begin_compaction<R: AllocGlobal + RandomSource, S: TextFile>(
+    rt: &R,
+    server: &mut DurableServer<S>,
 ) -> Result<Stage, Unreplaced> {
     unedited_text(&mut server.journal)?;
     let storage = &mut server.journal.storage;
@@ -42,9 +43,9 @@ pub(crate) fn begin_compaction(
 }
 
 /// Goes on with what was begun. After an error, the zone file and the journal are as they were, unless the journal has failed.
-pub(crate) fn continue_compaction(
-    rt: &HostRuntime,
-    server: &mut DurableServer<FileStorage<'_>>,
+pub(crate) fn continue_compaction<R: AllocGlobal + RandomSource, S: TextFile>(
+    rt: &R,
+    server: &mut DurableServer<S>,
 ) -> Result<Stage, Unreplaced> {
     let outcome = next_step(rt, server);
     if outcome.is_err() {
@@ -55,9 +56,9 @@ pub(crate) fn continue_compaction(
 }
 
 /// Writes more of the text, or lets it take the place of the zone file once it is written.
-fn next_step(
-    rt: &HostRuntime,
-    server: &mut DurableServer<FileStorage<'_>>,
+fn next_step<R: AllocGlobal + RandomSource, S: TextFile>(
+    rt: &R,
+    server: &mut DurableServer<S>,
 ) -> Result<Stage, Unreplaced> {
     if server.journal.position.state != State::Ready {
         return Err(Unreplaced::Refused(CompactError::Journal(AppendError::NotReady)));
@@ -93,9 +94,9 @@ fn next_step(
 }
 
 /// Replaces the zone file without a break: data has to be read again from the text, or updates arrive too fast.
-fn at_once(
-    rt: &HostRuntime,
-    server: &mut DurableServer<FileStorage<'_>>,
+fn at_once<R: AllocGlobal + RandomSource, S: TextFile>(
+    rt: &R,
+    server: &mut DurableServer<S>,
 ) -> Result<Stage, Unreplaced> {
     server.draft = Progress::Idle;
     server.journal.storage.discard_text();
@@ -104,7 +105,7 @@ fn at_once(
 }
 
 /// Writes a piece of the text to its file, if there is enough of it. Returns `true` once the whole text is there.
-fn write_piece(server: &mut DurableServer<FileStorage<'_>>) -> Result<bool, Unreplaced> {
+fn write_piece<S: TextFile>(server: &mut DurableServer<S>) -> Result<bool, Unreplaced> {
     let DurableServer { journal, draft, .. } = server;
     let Progress::Writing(draft) = draft else {
         return Ok(false);
