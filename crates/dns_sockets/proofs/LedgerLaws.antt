@@ -361,60 +361,82 @@ aside_handles_nothing g (By (Connection stream) e ∷ acts) all = ((refl, refl),
 aside_handles_nothing g (By (Socket socket) e ∷ acts) all = absurd all.0
 aside_handles_nothing g (By Nowhere e ∷ acts) all = absurd all.0
 
-sent_is_no_arrival : (socket : ℕ) (bytes : List ℕ) (peer : SocketAddr) (e : WorldEvent) → IsSent socket bytes peer e → IsNoArrival e
-sent_is_no_arrival socket bytes peer (Sent index out to taken) is = tt
-sent_is_no_arrival socket bytes peer (Received s b p) is = absurd is
-sent_is_no_arrival socket bytes peer (Unreceived s) is = tt
-sent_is_no_arrival socket bytes peer (Accepted l p) is = tt
-sent_is_no_arrival socket bytes peer (Admitted s a) is = tt
-sent_is_no_arrival socket bytes peer (Closed s) is = tt
-sent_is_no_arrival socket bytes peer (Read s b) is = tt
-sent_is_no_arrival socket bytes peer (Written s b) is = tt
-sent_is_no_arrival socket bytes peer (Clocked n) is = tt
-sent_is_no_arrival socket bytes peer (Waited m) is = tt
-sent_is_no_arrival socket bytes peer (Woken w) is = tt
+-- a datagram is sent
+abbrev pub IsSending : WorldEvent → Type 0
+IsSending (Sent socket bytes peer is_taken) = ⊤
+IsSending event = ⊥
 
-copies_are_no_arrivals : (socket : ℕ) (bytes : List ℕ) (peer : SocketAddr) (es : List WorldEvent) → AllByRecursion (IsSent socket bytes peer) es → AllByRecursion IsNoArrival es
-copies_are_no_arrivals socket bytes peer [] all = tt
-copies_are_no_arrivals socket bytes peer (e ∷ es) all = (sent_is_no_arrival socket bytes peer e all.0, copies_are_no_arrivals socket bytes peer es all.1)
+sendings_are_no_arrivals : (es : List WorldEvent) → AllByRecursion IsSending es → AllByRecursion IsNoArrival es
+sendings_are_no_arrivals [] all = tt
+sendings_are_no_arrivals (e ∷ es) all = (by e all.0, sendings_are_no_arrivals es all.1)
+  where
+    by : (e : WorldEvent) → IsSending e → IsNoArrival e
+    by (Sent socket bytes peer taken) is = tt
+    by (Received s b p) is = absurd is
+    by (Unreceived s) is = absurd is
+    by (Accepted l p) is = absurd is
+    by (Admitted s a) is = absurd is
+    by (Closed s) is = absurd is
+    by (Read s b) is = absurd is
+    by (Written s b) is = absurd is
+    by (Clocked n) is = absurd is
+    by (Waited m) is = absurd is
+    by (Woken w) is = absurd is
 
-none_arrive : (es : List WorldEvent) → es ≡ [] → AllByRecursion IsNoArrival es
-none_arrive es none = subst (λ (l : List WorldEvent). AllByRecursion IsNoArrival l) (sym none) tt
+sent_is_sending : (socket : ℕ) (bytes : List ℕ) (peer : SocketAddr) (e : WorldEvent) → IsSent socket bytes peer e → IsSending e
+sent_is_sending socket bytes peer (Sent index out to taken) is = tt
+sent_is_sending socket bytes peer (Received s b p) is = absurd is
+sent_is_sending socket bytes peer (Unreceived s) is = absurd is
+sent_is_sending socket bytes peer (Accepted l p) is = absurd is
+sent_is_sending socket bytes peer (Admitted s a) is = absurd is
+sent_is_sending socket bytes peer (Closed s) is = absurd is
+sent_is_sending socket bytes peer (Read s b) is = absurd is
+sent_is_sending socket bytes peer (Written s b) is = absurd is
+sent_is_sending socket bytes peer (Clocked n) is = absurd is
+sent_is_sending socket bytes peer (Waited m) is = absurd is
+sent_is_sending socket bytes peer (Woken w) is = absurd is
 
-sent_are_no_arrivals : (rs : List WaitingReply) (es : List WorldEvent) → AreSent rs es → AllByRecursion IsNoArrival es
-sent_are_no_arrivals [] es none = none_arrive es none
-sent_are_no_arrivals (r ∷ rs) es sent =
-    subst (λ (l : List WorldEvent). AllByRecursion IsNoArrival l) (sym sent.2.0)
-    (all_more IsNoArrival sent.0 sent.1 (copies_are_no_arrivals r.socket r.bytes.items r.peer sent.0 sent.2.1.0.1) (sent_are_no_arrivals rs sent.1 sent.2.1.1))
+copies_are_sendings : (socket : ℕ) (bytes : List ℕ) (peer : SocketAddr) (es : List WorldEvent) → AllByRecursion (IsSent socket bytes peer) es → AllByRecursion IsSending es
+copies_are_sendings socket bytes peer [] all = tt
+copies_are_sendings socket bytes peer (e ∷ es) all = (sent_is_sending socket bytes peer e all.0, copies_are_sendings socket bytes peer es all.1)
 
-tries_are_no_arrivals : (socket left : ℕ) (bytes : List ℕ) (peer : SocketAddr) (es : List WorldEvent) → AreTries socket left bytes peer es → AllByRecursion IsNoArrival es
-tries_are_no_arrivals socket zero bytes peer es none = none_arrive es none
-tries_are_no_arrivals socket (suc left) bytes peer es (inl taken) = subst (λ (l : List WorldEvent). AllByRecursion IsNoArrival l) (sym taken) (tt, tt)
-tries_are_no_arrivals socket (suc left) bytes peer es (inr more) =
-    subst (λ (l : List WorldEvent). AllByRecursion IsNoArrival l) (sym more.1.0) (tt, tries_are_no_arrivals (socket + 1) left bytes peer more.0 more.1.1)
+none_sent : (es : List WorldEvent) → es ≡ [] → AllByRecursion IsSending es
+none_sent es none = subst (λ (l : List WorldEvent). AllByRecursion IsSending l) (sym none) tt
 
-at_is_no_arrival : (index : ℕ) (peer : SocketAddr) (moment : ℕ) (d : Delivery) (bytes : Vec ℕ) (b : Bool) (old new : ScheduleContent WaitingReply) (es : List WorldEvent) → DeliversAt b index peer moment d bytes old es new
-    → AllByRecursion IsNoArrival es
-at_is_no_arrival index peer moment d bytes true old new es delivers = copies_are_no_arrivals index bytes.items peer es delivers.0.1
-at_is_no_arrival index peer moment d bytes false old new es delivers = none_arrive es delivers.0
+pub sent_are_sendings : (rs : List WaitingReply) (es : List WorldEvent) → AreSent rs es → AllByRecursion IsSending es
+sent_are_sendings [] es none = none_sent es none
+sent_are_sendings (r ∷ rs) es sent =
+    subst (λ (l : List WorldEvent). AllByRecursion IsSending l) (sym sent.2.0)
+    (all_more IsSending sent.0 sent.1 (copies_are_sendings r.socket r.bytes.items r.peer sent.0 sent.2.1.0.1) (sent_are_sendings rs sent.1 sent.2.1.1))
 
-reply_is_no_arrival : (index : ℕ) (peer : SocketAddr) (now : ℕ) (d : Delivery) (reply : Option (Vec ℕ)) (old new : ScheduleContent WaitingReply) (es : List WorldEvent) → DeliversReply index peer now d reply old es new
-    → AllByRecursion IsNoArrival es
-reply_is_no_arrival index peer now d None old new es delivers = none_arrive es delivers.0
-reply_is_no_arrival index peer now d (Some bytes) old new es delivers =
-    at_is_no_arrival index peer (later_by now d.after_milliseconds) d bytes (nat_le (later_by now d.after_milliseconds) now) old new es delivers
+pub tries_are_sendings : (socket left : ℕ) (bytes : List ℕ) (peer : SocketAddr) (es : List WorldEvent) → AreTries socket left bytes peer es → AllByRecursion IsSending es
+tries_are_sendings socket zero bytes peer es none = none_sent es none
+tries_are_sendings socket (suc left) bytes peer es (inl taken) = subst (λ (l : List WorldEvent). AllByRecursion IsSending l) (sym taken) (tt, tt)
+tries_are_sendings socket (suc left) bytes peer es (inr more) =
+    subst (λ (l : List WorldEvent). AllByRecursion IsSending l) (sym more.1.0) (tt, tries_are_sendings (socket + 1) left bytes peer more.0 more.1.1)
 
-replies_are_no_arrivals : (index now : ℕ) (peers : List SocketAddr) (ds : List Delivery) (old new : ScheduleContent WaitingReply) (es : List WorldEvent) → DeliversAll index now peers ds old es new → AllByRecursion IsNoArrival es
-replies_are_no_arrivals index now [] ds old new es delivers = none_arrive es delivers.0
-replies_are_no_arrivals index now (peer ∷ peers) [] old new es delivers = none_arrive es delivers.0
-replies_are_no_arrivals index now (peer ∷ peers) (d ∷ ds) old new es delivers =
-    subst (λ (l : List WorldEvent). AllByRecursion IsNoArrival l) (sym delivers.3.0)
-    (all_more IsNoArrival delivers.0 delivers.1 (reply_is_no_arrival index peer now d d.reply old delivers.2 delivers.0 delivers.3.1.0) (replies_are_no_arrivals index now peers ds delivers.2 new delivers.1 delivers.3.1.1))
+at_is_sending : (index : ℕ) (peer : SocketAddr) (moment : ℕ) (d : Delivery) (bytes : Vec ℕ) (b : Bool) (old new : ScheduleContent WaitingReply) (es : List WorldEvent) → DeliversAt b index peer moment d bytes old es new
+    → AllByRecursion IsSending es
+at_is_sending index peer moment d bytes true old new es delivers = copies_are_sendings index bytes.items peer es delivers.0.1
+at_is_sending index peer moment d bytes false old new es delivers = none_sent es delivers.0
 
-outcome_is_no_arrival : (index now : ℕ) (peers : List SocketAddr) (outcome : Option (List Delivery)) (old new : ScheduleContent WaitingReply) (es : List WorldEvent) → DeliversIf index now peers outcome old es new
-    → AllByRecursion IsNoArrival es
-outcome_is_no_arrival index now peers None old new es delivers = none_arrive es delivers.0
-outcome_is_no_arrival index now peers (Some ds) old new es delivers = replies_are_no_arrivals index now peers ds old new es delivers
+reply_is_sending : (index : ℕ) (peer : SocketAddr) (now : ℕ) (d : Delivery) (reply : Option (Vec ℕ)) (old new : ScheduleContent WaitingReply) (es : List WorldEvent) → DeliversReply index peer now d reply old es new
+    → AllByRecursion IsSending es
+reply_is_sending index peer now d None old new es delivers = none_sent es delivers.0
+reply_is_sending index peer now d (Some bytes) old new es delivers =
+    at_is_sending index peer (later_by now d.after_milliseconds) d bytes (nat_le (later_by now d.after_milliseconds) now) old new es delivers
+
+replies_are_sendings : (index now : ℕ) (peers : List SocketAddr) (ds : List Delivery) (old new : ScheduleContent WaitingReply) (es : List WorldEvent) → DeliversAll index now peers ds old es new → AllByRecursion IsSending es
+replies_are_sendings index now [] ds old new es delivers = none_sent es delivers.0
+replies_are_sendings index now (peer ∷ peers) [] old new es delivers = none_sent es delivers.0
+replies_are_sendings index now (peer ∷ peers) (d ∷ ds) old new es delivers =
+    subst (λ (l : List WorldEvent). AllByRecursion IsSending l) (sym delivers.3.0)
+    (all_more IsSending delivers.0 delivers.1 (reply_is_sending index peer now d d.reply old delivers.2 delivers.0 delivers.3.1.0) (replies_are_sendings index now peers ds delivers.2 new delivers.1 delivers.3.1.1))
+
+pub outcome_is_sending : (index now : ℕ) (peers : List SocketAddr) (outcome : Option (List Delivery)) (old new : ScheduleContent WaitingReply) (es : List WorldEvent) → DeliversIf index now peers outcome old es new
+    → AllByRecursion IsSending es
+outcome_is_sending index now peers None old new es delivers = none_sent es delivers.0
+outcome_is_sending index now peers (Some ds) old new es delivers = replies_are_sendings index now peers ds old new es delivers
 
 -- what datagrams count
 abbrev gathered_worth : (SocketAddr → List ℕ → ℕ) → List (SocketAddr × List ℕ) → ℕ
@@ -499,12 +521,12 @@ requests_steps g index now (Handle first ∷ steps) ds ds1 old new acts are =
     (pays_both (requests g) first are.1 (gathered (g index) ds) 0 (gathered (g index) ds1)
     (subst (λ (l : List Act). Pays (requests g) l (gathered (g index) ds) 0) (sym handled.3.0)
     (pays_both (requests g) (map (By (Socket index)) handled.1) (map At handled.2) (gathered (g index) ds) 0 0 (handled_if g index now ds handled.0 handled.1 handled.3.1.0)
-    (pays_free (requests g) (map At handled.2) 0 (no_arrivals_are_free g handled.2 (outcome_is_no_arrival index now (map peer_of ds) handled.0 old are.0 handled.2 handled.3.1.1)))))
+    (pays_free (requests g) (map At handled.2) 0 (no_arrivals_are_free g handled.2 (sendings_are_no_arrivals handled.2 (outcome_is_sending index now (map peer_of ds) handled.0 old are.0 handled.2 handled.3.1.1))))))
     (requests_steps g index now steps [] ds1 are.0 new are.1 are.2.1.1))
 
 notice_handles_nothing : (g : ℕ → SocketAddr → List ℕ → ℕ) (sockets now : ℕ) (notice : NoticeContent) (acts : List Act) → IsNotice sockets now notice acts → AllByRecursion (IsFree (requests g)) acts
 notice_handles_nothing g sockets now notice acts is =
-    subst (λ (l : List Act). AllByRecursion (IsFree (requests g)) l) (sym is.1.0) ((refl, refl), no_arrivals_are_free g is.0 (tries_are_no_arrivals 0 sockets notice.bytes notice.peer is.0 is.1.1))
+    subst (λ (l : List Act). AllByRecursion (IsFree (requests g)) l) (sym is.1.0) ((refl, refl), no_arrivals_are_free g is.0 (sendings_are_no_arrivals is.0 (tries_are_sendings 0 sockets notice.bytes notice.peer is.0 is.1.1)))
 
 notices_handle_nothing : (g : ℕ → SocketAddr → List ℕ → ℕ) (most sockets now : ℕ) (acts : List Act) → AreNotices most sockets now acts → AllByRecursion (IsFree (requests g)) acts
 notices_handle_nothing g zero sockets now acts none = subst (λ (l : List Act). AllByRecursion (IsFree (requests g)) l) (sym none) tt
@@ -572,49 +594,9 @@ aside_earns ws acts all = earns_if ws ws acts (λ f. pays_free (replies f) acts 
 -- replies whose moment has come
 pub due_earns : (now : ℕ) (ws : List (Waiting WaitingReply)) (es : List WorldEvent) → AreSent (all_due now ws) es → Earns ws (all_left now ws) (map At es)
 due_earns now ws es sent =
-    earns_if ws (all_left now ws) (map At es) (λ f. pays_due f now ws es sent) (λ g. pays_free (requests g) (map At es) 0 (no_arrivals_are_free g es (sent_are_no_arrivals (all_due now ws) es sent)))
+    earns_if ws (all_left now ws) (map At es) (λ f. pays_due f now ws es sent) (λ g. pays_free (requests g) (map At es) 0 (no_arrivals_are_free g es (sendings_are_no_arrivals es (sent_are_sendings (all_due now ws) es sent))))
 
 -- datagrams without a request
 pub notices_earn : (ws : List (Waiting WaitingReply)) (most sockets now : ℕ) (acts : List Act) → AreNotices most sockets now acts → Earns ws ws acts
 notices_earn ws most sockets now acts notices =
     earns_if ws ws acts (λ f. pays_notices f most sockets now acts (waiting_worth f ws) notices) (λ g. pays_free (requests g) acts 0 (notices_handle_nothing g most sockets now acts notices))
-
--- ---- the same of what leads a world and a handler from a state to another
-
-module _ {S H : Type 0} (performs : S → WorldEvent → S → Type 0) (steps : H → HandlerEvent → H → Type 0) where
-  -- nothing happens
-  pub earns_nothing : (w : S) (h : H) (ws : List (Waiting WaitingReply)) → Traces performs steps w h w h (Earns ws ws)
-  earns_nothing w h ws = record { acts = []; leads = (refl, refl); holds = aside_earns ws [] tt }
-
-  -- acts after others
-  pub earns_then : (w w1 w2 : S) (h h1 h2 : H) (a b c : List (Waiting WaitingReply)) → Traces performs steps w h w1 h1 (Earns a b) → Traces performs steps w1 h1 w2 h2 (Earns b c) → Traces performs steps w h w2 h2 (Earns a c)
-  earns_then w w1 w2 h h1 h2 a b c first next = record {
-    acts = first.acts ++ next.acts;
-    leads = leads_both performs steps w w1 w2 h h1 h2 first.acts next.acts first.leads next.leads;
-    holds = earns_both a b c first.acts next.acts first.holds next.holds;
-  }
-
-  -- acts about no datagram
-  pub earns_aside : (w w1 : S) (h h1 : H) (ws : List (Waiting WaitingReply)) → Traces performs steps w h w1 h1 (AllByRecursion IsAside) → Traces performs steps w h w1 h1 (Earns ws ws)
-  earns_aside w w1 h h1 ws happened = record { acts = happened.acts; leads = happened.leads; holds = aside_earns ws happened.acts happened.holds }
-
-  -- events about no datagram
-  pub earns_events : (w w1 : S) (h : H) (ws : List (Waiting WaitingReply)) → Performs performs w w1 (AllByRecursion IsAsideEvent) → Traces performs steps w h w1 h (Earns ws ws)
-  earns_events w w1 h ws happened = earns_aside w w1 h h ws (all_events performs steps IsAside IsAsideEvent w w1 h (λ (e : WorldEvent) (aside : IsAsideEvent e). aside) happened)
-
-  -- a turn of a datagram socket
-  pub earns_turn : (w w1 : S) (h h1 : H) (index now : ℕ) (old new : ScheduleContent WaitingReply) → Traces performs steps w h w1 h1 (IsTurn index now [] old [] new) → Traces performs steps w h w1 h1 (Earns old.items new.items)
-  earns_turn w w1 h h1 index now old new turn = record { acts = turn.acts; leads = turn.leads; holds = turn_earns index now old new turn.acts turn.holds }
-
-  -- replies whose moment has come
-  pub earns_due : (w w1 : S) (h : H) (now : ℕ) (old new : ScheduleContent WaitingReply) → new ≡ record old { items = all_left now old.items } → Performs performs w w1 (AreSent (all_due now old.items))
-      → Traces performs steps w h w1 h (Earns old.items new.items)
-  earns_due w w1 h now old new left sent = record {
-    acts = map At sent.events;
-    leads = leads_at performs steps w w1 h sent.events sent.led;
-    holds = subst (λ (s : ScheduleContent WaitingReply). Earns old.items s.items (map At sent.events)) (sym left) (due_earns now old.items sent.events sent.holds);
-  }
-
-  -- datagrams without a request
-  pub earns_notices : (w w1 : S) (h h1 : H) (ws : List (Waiting WaitingReply)) (most sockets now : ℕ) → Traces performs steps w h w1 h1 (AreNotices most sockets now) → Traces performs steps w h w1 h1 (Earns ws ws)
-  earns_notices w w1 h h1 ws most sockets now sent = record { acts = sent.acts; leads = sent.leads; holds = notices_earn ws most sockets now sent.acts sent.holds }

@@ -7,3 +7,9 @@ pub mod NoticeLaws
 pub mod StreamLaws
 pub mod LedgerLaws
 pub mod EarnsWitness
+pub mod StreamStepLaws
+pub mod ConnectionLaws
+pub mod ServedLaws
+pub mod StreamHistoryLaws
+pub mod StreamOrderLaws
+pub mod StreamWitness

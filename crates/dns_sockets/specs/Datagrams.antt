@@ -21,12 +21,14 @@ waiting_reply index peer d bytes = record { socket = index; peer = peer; copies 
 
 -- a reply whose moment has come or not: it is sent at once, as often as the delivery says, or waits, or is lost, for want of room or of
 -- memory
-abbrev pub DeliversAt : Bool → ℕ → SocketAddr → ℕ → Delivery → Vec ℕ → ScheduleContent WaitingReply → List WorldEvent → ScheduleContent WaitingReply → Type 0
+abbrev pub DeliversAt : Bool → ℕ → SocketAddr → ℕ → Delivery → Vec ℕ → ScheduleContent WaitingReply → List WorldEvent
+    → ScheduleContent WaitingReply → Type 0
 DeliversAt true index peer moment d bytes old es new = AreCopies index d.copies bytes.items peer es × (new ≡ old)
 DeliversAt false index peer moment d bytes old es new = (es ≡ []) × ((new ≡ old) ⊎ (new ≡ scheduled old moment (waiting_reply index peer d bytes)))
 
 -- the same of a reply, if there is one; else nothing is sent
-abbrev pub DeliversReply : ℕ → SocketAddr → ℕ → Delivery → Option (Vec ℕ) → ScheduleContent WaitingReply → List WorldEvent → ScheduleContent WaitingReply → Type 0
+abbrev pub DeliversReply : ℕ → SocketAddr → ℕ → Delivery → Option (Vec ℕ) → ScheduleContent WaitingReply → List WorldEvent
+    → ScheduleContent WaitingReply → Type 0
 DeliversReply index peer now d None old es new = (es ≡ []) × (new ≡ old)
 DeliversReply index peer now d (Some bytes) old es new =
     DeliversAt (nat_le (later_by now d.after_milliseconds) now) index peer (later_by now d.after_milliseconds) d bytes old es new
@@ -40,7 +42,8 @@ abbrev pub peer_of : Datagram → SocketAddr
 peer_of datagram = datagram.peer
 
 -- what becomes of deliveries to peers, one after another
-abbrev pub DeliversAll : ℕ → ℕ → List SocketAddr → List Delivery → ScheduleContent WaitingReply → List WorldEvent → ScheduleContent WaitingReply → Type 0
+abbrev pub DeliversAll : ℕ → ℕ → List SocketAddr → List Delivery → ScheduleContent WaitingReply → List WorldEvent
+    → ScheduleContent WaitingReply → Type 0
 DeliversAll index now [] ds old es new = (es ≡ []) × (new ≡ old)
 DeliversAll index now (peer ∷ peers) [] old es new = (es ≡ []) × (new ≡ old)
 DeliversAll index now (peer ∷ peers) (d ∷ ds) old es new =
@@ -48,14 +51,16 @@ DeliversAll index now (peer ∷ peers) (d ∷ ds) old es new =
     × ((es ≡ first ++ rest) × (Delivers index peer now d old first mid × DeliversAll index now peers ds mid rest new))
 
 -- what becomes of deliveries, if there are any
-abbrev pub DeliversIf : ℕ → ℕ → List SocketAddr → Option (List Delivery) → ScheduleContent WaitingReply → List WorldEvent → ScheduleContent WaitingReply → Type 0
+abbrev pub DeliversIf : ℕ → ℕ → List SocketAddr → Option (List Delivery) → ScheduleContent WaitingReply → List WorldEvent
+    → ScheduleContent WaitingReply → Type 0
 DeliversIf index now peers None old es new = (es ≡ []) × (new ≡ old)
 DeliversIf index now peers (Some ds) old es new = DeliversAll index now peers ds old es new
 
 -- replies that waited are sent, one after another
 abbrev pub AreSent : List WaitingReply → List WorldEvent → Type 0
 AreSent [] es = es ≡ []
-AreSent (r ∷ rs) es = (first : List WorldEvent) × (rest : List WorldEvent) × ((es ≡ first ++ rest) × (AreCopies r.socket r.copies r.bytes.items r.peer first × AreSent rs rest))
+AreSent (r ∷ rs) es = (first : List WorldEvent) × (rest : List WorldEvent) × ((es ≡ first ++ rest)
+    × (AreCopies r.socket r.copies r.bytes.items r.peer first × AreSent rs rest))
 
 -- ---- requests
 
@@ -93,7 +98,8 @@ HandlesIf now gathered events outcome = (events ≡ are_handled now gathered out
 abbrev pub Handles : ℕ → ℕ → List Datagram → ScheduleContent WaitingReply → List Act → ScheduleContent WaitingReply → Type 0
 Handles index now gathered old acts new =
     (outcome : Option (List Delivery)) × (calls : List HandlerEvent) × (sent : List WorldEvent)
-    × ((acts ≡ map (By (Socket index)) calls ++ map At sent) × (HandlesIf now gathered calls outcome × DeliversIf index now (map peer_of gathered) outcome old sent new))
+    × ((acts ≡ map (By (Socket index)) calls ++ map At sent) × (HandlesIf now gathered calls outcome
+    × DeliversIf index now (map peer_of gathered) outcome old sent new))
 
 -- what a datagram is, wherever its bytes are
 abbrev pub datagram_content : Datagram → SocketAddr × List ℕ
@@ -142,7 +148,8 @@ pub data TurnStep : Type 0 where
   Handle : List Act → TurnStep
 
 -- Steps of a turn, one after another: each receive adds to the datagrams that are gathered, and all of these are handled together.
-abbrev pub AreSteps : ℕ → ℕ → List TurnStep → List Datagram → ScheduleContent WaitingReply → List Act → List Datagram → ScheduleContent WaitingReply → Type 0
+abbrev pub AreSteps : ℕ → ℕ → List TurnStep → List Datagram → ScheduleContent WaitingReply → List Act → List Datagram
+    → ScheduleContent WaitingReply → Type 0
 AreSteps index now [] old waiting acts new left = (acts ≡ []) × ((new ≡ old) × (left ≡ waiting))
 AreSteps index now (Receive first ∷ steps) old waiting acts new left =
     (gathered : List Datagram) × (rest : List Act)

@@ -108,7 +108,8 @@ waiting_worth f (w ∷ ws) = w.item.copies * f.of w.item.socket w.item.peer w.it
 -- Where replies waited, and others wait after these acts: all acts are paid, and what waits then is paid, too.
 abbrev pub EarnsReplies : List (Waiting WaitingReply) → List (Waiting WaitingReply) → List Act → Type 0
 EarnsReplies old new acts =
-    (f : Weight) (credit : ℕ) → waiting_worth f old ≤ credit → AllPaid (replies f) credit acts × (waiting_worth f new ≤ left_of (replies f) credit acts)
+    (f : Weight) (credit : ℕ) → waiting_worth f old ≤ credit → AllPaid (replies f) credit acts
+    × (waiting_worth f new ≤ left_of (replies f) credit acts)
 
 -- requests are handled that arrived, each at most once
 abbrev pub HandlesArrived : List Act → Type 0

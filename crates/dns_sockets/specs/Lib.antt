@@ -1,4 +1,7 @@
 pub mod Stream
+pub mod Connections
+pub mod StreamHistory
+pub mod StreamSteps
 pub mod StreamTable
 pub mod Notices
 pub mod Output
@@ -9,3 +12,4 @@ pub mod Trace
 pub mod Datagrams
 pub mod schedule
 pub mod Ledger
+pub mod Served

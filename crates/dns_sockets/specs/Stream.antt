@@ -52,7 +52,8 @@ IsHandledUnless request (Some None) calls = AreHandled (request ∷ []) calls
 abbrev pub AreAnswered : Bool → List RequestContent → List HandlerEvent → Type 0
 AreAnswered is_busy [] calls = AreHandled [] calls
 AreAnswered is_busy (request ∷ []) calls =
-    (messages : Option (Option (List (List ℕ)))) × (rest : List HandlerEvent) × ((calls ≡ Transferred request is_busy messages ∷ rest) × IsHandledUnless request messages rest)
+    (messages : Option (Option (List (List ℕ)))) × (rest : List HandlerEvent) × ((calls ≡ Transferred request is_busy messages ∷ rest)
+    × IsHandledUnless request messages rest)
 AreAnswered is_busy (request ∷ next ∷ more) calls = AreHandled (request ∷ next ∷ more) calls
 
 -- messages that arrived over a stream are answered, or nothing is done for want of memory

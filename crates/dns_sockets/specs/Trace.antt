@@ -1,7 +1,7 @@
 -- What a service does: what happens between it and the world, and what its handler does, in order.
 use Rattle.std.specs.Prelude.{◌≡◌, ◌⊎◌, ℕ, List, [], ◌∷◌, ⊤, Option}
 use Rattle.dns_sockets.specs.Handler.{HandlerEvent}
-use Rattle.dns_sockets.specs.World.{WorldEvent, Read, Received, Sent, Unreceived, Written}
+use Rattle.dns_sockets.specs.World.{WorldEvent, Clocked, Read, Received, Sent, Unreceived, Waited, Woken, Written}
 
 -- for what a handler is called: what arrived at the datagram socket of an index, or on the connection of an index, or nothing that arrived
 pub data Origin : Type 0 where
@@ -23,7 +23,8 @@ Leads {S} {H} performs steps world handler (By origin event ∷ acts) new after 
     (mid : H) × (steps handler event mid × Leads performs steps world mid acts new after)
 
 -- acts that lead a world and a handler from a state to another have P
-pub record Traces {S H : Type 0} (performs : S → WorldEvent → S → Type 0) (steps : H → HandlerEvent → H → Type 0) (world : S) (handler : H) (new : S) (after : H) (P : List Act → Type 0) : Type 0 where
+pub record Traces {S H : Type 0} (performs : S → WorldEvent → S → Type 0) (steps : H → HandlerEvent → H
+    → Type 0) (world : S) (handler : H) (new : S) (after : H) (P : List Act → Type 0) : Type 0 where
   pub acts : List Act
   pub leads : Leads performs steps world handler acts new after
   pub holds : P acts
@@ -36,6 +37,13 @@ IsAsideEvent (Received socket bytes peer) = ⊥
 IsAsideEvent (Unreceived socket) = ⊥
 IsAsideEvent (Sent socket bytes peer is_taken) = ⊥
 IsAsideEvent event = ⊤
+
+-- an event at no socket: the clock is read, or the service waits
+abbrev pub IsQuiet : WorldEvent → Type 0
+IsQuiet (Clocked moment) = ⊤
+IsQuiet (Waited most) = ⊤
+IsQuiet (Woken wake) = ⊤
+IsQuiet event = ⊥
 
 -- a call of the handler for what arrived on a connection
 abbrev pub IsForStream : Origin → Type 0

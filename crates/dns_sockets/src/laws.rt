@@ -1,10 +1,13 @@
 //! Theorems about the definitions of this crate, as functions with empty bodies.
 
-ghost use Rattle.std.specs.Prelude.{[], ℕ, List};
+ghost use Rattle.std.specs.Prelude.{[], ℕ, List, Option};
 ghost use Rattle.std.specs.declared.net.socket_addr.SocketAddr.{SocketAddr};
+ghost use Rattle.dns_sockets.specs.Connections.{AreFollowed};
 ghost use Rattle.dns_sockets.specs.Ledger.{AllPaid, Earns, Weight, replies, requests};
+ghost use Rattle.dns_sockets.specs.StreamHistory.{HaveArrived, IsFront, handled_on, read_on, replied_on, written_on};
 ghost use Rattle.dns_sockets.specs.Trace.{Act};
 ghost use Rattle.dns_sockets.specs.declared.datagrams.WaitingReply.{WaitingReply};
+ghost use Rattle.dns_sockets.specs.declared.stream.Stream.{Stream};
 ghost use Rattle.dns_sockets.specs.schedule.Schedule.{Waiting};
 
 /// However datagrams are counted, a service that begins without replies that wait sends, up to each moment, no more than what the requests
@@ -15,4 +18,14 @@ pub fn every_reply_is_earned()
         → (f : Weight) → AllPaid (replies f) 0 acts }
     ensures requests { (new : List (Waiting WaitingReply)) (acts : List Act) → Earns [] new acts
         → (g : ℕ → SocketAddr → List ℕ → ℕ) → AllPaid (requests g) 0 acts }
+{}
+
+/// On each connection of a service that began without any, the requests that were handled up to each moment since it was admitted are the
+/// first that arrived on it, in order, and what was written on it is the front of the frames of their replies, in the same order (RFC 7766
+/// sections 6.2.1.1 and 7).
+pub fn streams_answer_in_order()
+    ensures requests { (new : List (Option Stream)) (acts : List Act) → AreFollowed [] new acts
+        → (index : ℕ) → HaveArrived (read_on index [] acts) (handled_on index [] acts) }
+    ensures replies { (new : List (Option Stream)) (acts : List Act) → AreFollowed [] new acts
+        → (index : ℕ) → IsFront (written_on index [] acts) (replied_on index [] acts) }
 {}

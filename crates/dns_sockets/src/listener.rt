@@ -1,8 +1,10 @@
 //! Listeners for connections.
 
 ghost use Rattle.std.specs.List.{AllByRecursion};
+ghost use Rattle.std.specs.Prelude.{map};
+ghost use Rattle.dns_sockets.specs.Connections.{AreFollowed, IsAdmitted};
 ghost use Rattle.dns_sockets.specs.Events.{Performs};
-ghost use Rattle.dns_sockets.specs.Trace.{IsAsideEvent};
+ghost use Rattle.dns_sockets.specs.Trace.{At, IsAsideEvent};
 
 use crate::clock::Milliseconds;
 use crate::stream::Stream;
@@ -50,7 +52,8 @@ impl Listener {
         now: Milliseconds,
     )
         ensures { Performs W.performs world.old world.new (λ es.
-            AllByRecursion IsAsideEvent es) }
+            AllByRecursion IsAsideEvent es
+            × AreFollowed streams.old.slots.items streams.new.slots.items (map At es)) }
     {
         if now < self.ready_at {
             return;
@@ -72,7 +75,8 @@ impl Listener {
         now: Milliseconds,
     ) -> bool
         ensures { Performs W.performs world.old world.new (λ es.
-            AllByRecursion IsAsideEvent es) }
+            AllByRecursion IsAsideEvent es
+            × AreFollowed streams.old.slots.items streams.new.slots.items (map At es)) }
     {
         match world.accept(index) {
             Arrival::Connection(peer) => {
@@ -103,10 +107,12 @@ fn admit<W: World>(
     now: Milliseconds,
 )
     ensures { Performs W.performs world.old world.new (λ es.
-        AllByRecursion IsAsideEvent es) }
+        AllByRecursion IsAsideEvent es
+        × IsAdmitted peer streams.old.slots.items streams.new.slots.items (map At es)) }
 {
-    let index = streams.vacate(world);
-    if world.admit(index) {
-        streams.put(index, Stream::new(alloc, peer, now));
+    if let Some(index) = streams.vacate(world) {
+        if world.admit(index) {
+            streams.put(index, Stream::new(alloc, peer, now));
+        }
     }
 }

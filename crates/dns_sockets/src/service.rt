@@ -1,10 +1,11 @@
 //! The state of a service, and its loop.
 
 ghost use Rattle.std.specs.List.{AllByRecursion};
-ghost use Rattle.std.specs.Prelude.{◌≡◌};
+ghost use Rattle.std.specs.Prelude.{◌≡◌, [], IfOk, map};
 ghost use Rattle.dns_sockets.specs.Events.{Performs};
-ghost use Rattle.dns_sockets.specs.Ledger.{Earns};
-ghost use Rattle.dns_sockets.specs.Trace.{IsAsideEvent, Traces};
+ghost use Rattle.dns_sockets.specs.Connections.{AreFollowed, AreKept};
+ghost use Rattle.dns_sockets.specs.Served.{IsServed};
+ghost use Rattle.dns_sockets.specs.Trace.{At, IsAsideEvent, IsQuiet, Traces};
 
 use crate::clock::Milliseconds;
 use crate::datagrams::{DatagramSocket, WaitingReply, send_due};
@@ -43,7 +44,10 @@ impl Service {
     /// # Errors
     ///
     /// Memory is refused.
-    pub fn new(alloc: Global) -> Result<Service, AllocError> {
+    pub fn new(alloc: Global) -> Result<Service, AllocError>
+        ensures waiting { IfOk result (λ service. service.waiting.items ≡ []) }
+        ensures streams { IfOk result (λ service. service.streams.slots.items ≡ []) }
+    {
         Ok(Service {
             alloc,
             datagrams: Vec::new(alloc),
@@ -59,7 +63,10 @@ impl Service {
     /// # Errors
     ///
     /// Memory is refused.
-    pub fn add(&mut self) -> Result<(), AllocError> {
+    pub fn add(&mut self) -> Result<(), AllocError>
+        ensures waiting { self.new.waiting ≡ self.old.waiting }
+        ensures streams { self.new.streams ≡ self.old.streams }
+    {
         self.datagrams.push(DatagramSocket::new())?;
         self.listeners.push(Listener::new())?;
         Ok(())
@@ -68,14 +75,17 @@ impl Service {
     /// Handles requests until the world ends the service.
     ///
     /// Each datagram that is sent is a reply to a request that arrived at the same socket from the same peer, and is sent no more
-    /// often than the handler says, or is due without a request.
+    /// often than the handler says, or is due without a request. On each connection, requests are handled in the order in which they
+    /// arrived, one after another, and their replies are written in the same order; nothing more is handled while more than 65,537
+    /// bytes wait to be written.
     ///
     /// # Errors
     ///
     /// An error of the clock or of the wait for events, which have none on a sound system.
     pub fn run<W: World, H: Handler>(&mut self, world: &mut W, handler: &mut H) -> io::Result<()>
         ensures { Traces W.performs H.steps world.old handler.old world.new handler.new
-            (Earns self.old.waiting.items self.new.waiting.items) }
+            (IsServed self.old.waiting.items self.old.streams.slots.items
+            self.new.waiting.items self.new.streams.slots.items) }
     {
         for _turn in 0..u64::MAX {
             if self.turn(world, handler)? {
@@ -88,7 +98,8 @@ impl Service {
     /// Waits until there is something to do, and does it. Returns `true` if the service is to end.
     fn turn<W: World, H: Handler>(&mut self, world: &mut W, handler: &mut H) -> io::Result<bool>
         ensures { Traces W.performs H.steps world.old handler.old world.new handler.new
-            (Earns self.old.waiting.items self.new.waiting.items) }
+            (IsServed self.old.waiting.items self.old.streams.slots.items
+            self.new.waiting.items self.new.streams.slots.items) }
     {
         self.wait(world, handler.next_moment())?;
         if self.note_all(world) {
@@ -101,7 +112,7 @@ impl Service {
     /// Waits until there is something to do: not at all if there is now, and without end if there will not be. At a moment, something
     /// is to be sent without a request.
     fn wait<W: World>(&self, world: &mut W, moment: Option<Milliseconds>) -> io::Result<()>
-        ensures { Performs W.performs world.old world.new (AllByRecursion IsAsideEvent) }
+        ensures { Performs W.performs world.old world.new (AllByRecursion IsQuiet) }
     {
         let deadline = sooner(self.deadline(), moment);
         if deadline == Milliseconds::MAX {
@@ -128,8 +139,9 @@ impl Service {
 
     /// Takes note of what ended a wait. Returns `true` if the service is to end.
     fn note_all<W: World>(&mut self, world: &mut W) -> bool
-        ensures world { Performs W.performs world.old world.new (AllByRecursion IsAsideEvent) }
+        ensures world { Performs W.performs world.old world.new (AllByRecursion IsQuiet) }
         ensures waiting { self.new.waiting ≡ self.old.waiting }
+        ensures streams { AreKept self.old.streams.slots.items self.new.streams.slots.items }
     {
         for _wake in 0..u64::MAX {
             match world.next_wake() {
@@ -143,7 +155,8 @@ impl Service {
 
     /// Takes note of what a socket may be ready for.
     fn note(&mut self, wake: Wake)
-        ensures { self.new.waiting ≡ self.old.waiting }
+        ensures waiting { self.new.waiting ≡ self.old.waiting }
+        ensures streams { AreKept self.old.streams.slots.items self.new.streams.slots.items }
     {
         match wake {
             Wake::Datagrams(index) => {
@@ -166,7 +179,8 @@ impl Service {
     /// Lets each socket do what it can without waiting, up to its share.
     fn serve<W: World, H: Handler>(&mut self, world: &mut W, handler: &mut H) -> io::Result<()>
         ensures { Traces W.performs H.steps world.old handler.old world.new handler.new
-            (Earns self.old.waiting.items self.new.waiting.items) }
+            (IsServed self.old.waiting.items self.old.streams.slots.items
+            self.new.waiting.items self.new.streams.slots.items) }
     {
         let now = world.now()?;
         self.serve_datagrams(world, handler, now);
@@ -186,7 +200,8 @@ impl Service {
         now: Milliseconds,
     )
         ensures { Traces W.performs H.steps world.old handler.old world.new handler.new
-            (Earns self.old.waiting.items self.new.waiting.items) }
+            (IsServed self.old.waiting.items self.old.streams.slots.items
+            self.new.waiting.items self.new.streams.slots.items) }
     {
         for index in 0..self.datagrams.len() {
             self.serve_socket(world, handler, index, now);
@@ -202,7 +217,8 @@ impl Service {
         now: Milliseconds,
     )
         ensures { Traces W.performs H.steps world.old handler.old world.new handler.new
-            (Earns self.old.waiting.items self.new.waiting.items) }
+            (IsServed self.old.waiting.items self.old.streams.slots.items
+            self.new.waiting.items self.new.streams.slots.items) }
     {
         if let Some(socket) = self.datagrams.as_mut_slice().get_mut(index) {
             socket.serve(
@@ -219,7 +235,9 @@ impl Service {
 
     /// Accepts the connections that wait.
     fn accept<W: World>(&mut self, world: &mut W, now: Milliseconds)
-        ensures world { Performs W.performs world.old world.new (AllByRecursion IsAsideEvent) }
+        ensures world { Performs W.performs world.old world.new (λ es.
+            AllByRecursion IsAsideEvent es × AreFollowed self.old.streams.slots.items
+            self.new.streams.slots.items (map At es)) }
         ensures waiting { self.new.waiting ≡ self.old.waiting }
     {
         for index in 0..self.listeners.len() {
@@ -229,7 +247,9 @@ impl Service {
 
     /// Accepts the connections that wait at the listener of an index.
     fn accept_at<W: World>(&mut self, world: &mut W, index: usize, now: Milliseconds)
-        ensures world { Performs W.performs world.old world.new (AllByRecursion IsAsideEvent) }
+        ensures world { Performs W.performs world.old world.new (λ es.
+            AllByRecursion IsAsideEvent es × AreFollowed self.old.streams.slots.items
+            self.new.streams.slots.items (map At es)) }
         ensures waiting { self.new.waiting ≡ self.old.waiting }
     {
         if let Some(listener) = self.listeners.as_mut_slice().get_mut(index) {

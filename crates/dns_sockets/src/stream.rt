@@ -1,10 +1,12 @@
 //! A connection of a listener.
 
 ghost use Rattle.std.specs.List.{AllByRecursion};
-ghost use Rattle.std.specs.Prelude.{◌≡◌, ◌+◌, ◌≤◌, ◌++◌, [], ◌∷◌, true, IfOk, IfSome, OnOk, drop, length, map, option_to_list};
+ghost use Rattle.std.specs.Prelude.{◌≡◌, ◌+◌, ◌<◌, ◌≤◌, ◌⊎◌, ◌++◌, [], ◌∷◌, true, false, IfOk, IfSome, OnOk, drop, is_err, length, map, option_to_list, Some};
 ghost use Rattle.dns_server.specs.Connection.{max_input_len};
 ghost use Rattle.dns_sockets.specs.Events.{Performs};
-ghost use Rattle.dns_sockets.specs.Trace.{IsOfStream, MayRead, Traces};
+ghost use Rattle.dns_sockets.specs.Connections.{connected, connection_of, read_after};
+ghost use Rattle.dns_sockets.specs.StreamSteps.{AreTaken, CallsLeave, IsAnswered, IsReady, KeepsBytes, KeepsReplies, Leaves, StaysUnless, bytes_read, ends, released};
+ghost use Rattle.dns_sockets.specs.Trace.{At, IsOfStream, MayRead, Traces};
 ghost use Rattle.dns_sockets.specs.World.{IsWithin, moved, write_event};
 ghost use Rattle.dns_sockets.specs.declared.world.Progress.{Progress};
 ghost use Rattle.dns_sockets.specs.Handler.{message_bytes, request_content};
@@ -123,7 +125,9 @@ impl Drop for Stream {
 
 impl Stream {
     /// Creates the state of a connection that a listener has accepted.
-    pub(crate) fn new(alloc: Global, peer: SocketAddr, now: Milliseconds) -> Stream {
+    pub(crate) fn new(alloc: Global, peer: SocketAddr, now: Milliseconds) -> Stream
+        ensures { connection_of result ≡ connected peer }
+    {
         Stream {
             alloc,
             peer,
@@ -143,7 +147,9 @@ impl Stream {
     }
 
     /// Takes note of what the system says that the socket is ready for.
-    pub(crate) fn note(&mut self, is_readable: bool, is_writable: bool) {
+    pub(crate) fn note(&mut self, is_readable: bool, is_writable: bool)
+        ensures { connection_of self.new ≡ connection_of self.old }
+    {
         self.readiness.read = self.readiness.read || is_readable;
         self.readiness.write = self.readiness.write || is_writable;
         self.wants_turn = true;
@@ -187,8 +193,11 @@ impl Stream {
         now: Milliseconds,
         is_busy: bool,
     ) -> bool
-        ensures { Traces W.performs H.steps world.old handler.old world.new handler.new
-            (AllByRecursion (IsOfStream index)) }
+        ensures acts { Traces W.performs H.steps world.old handler.old world.new handler.new
+            (λ acts. AllByRecursion (IsOfStream index) acts
+            × Leaves result index (connection_of self.old) acts (connection_of self.new)) }
+        ensures in_time { result ≡ false
+            → (self.new.wants_turn ≡ true) ⊎ (now < deadline self.new) }
     {
         for _step in 0..MAX_STEPS {
             match self.step(world, index, handler, buffer, now, is_busy) {
@@ -200,6 +209,7 @@ impl Stream {
                 Step::Closes => return true,
             }
         }
+        self.wants_turn = true;
         false
     }
 
@@ -214,7 +224,8 @@ impl Stream {
         is_busy: bool,
     ) -> Step
         ensures { Traces W.performs H.steps world.old handler.old world.new handler.new
-            (AllByRecursion (IsOfStream index)) }
+            (λ acts. AllByRecursion (IsOfStream index) acts
+            × Leaves (ends result) index (connection_of self.old) acts (connection_of self.new)) }
     {
         let has_output = !self.output.rest().is_empty();
         if has_output && self.readiness.write {
@@ -243,7 +254,8 @@ impl Stream {
     fn write<W: World>(&mut self, world: &mut W, index: usize, now: Milliseconds) -> Step
         ensures { (progress : Progress) × (W.performs world.old
             (write_event index progress self.old.output) world.new
-            × (self.new.output ≡ drop (moved progress) self.old.output)) }
+            × ((moved progress ≤ length self.old.output) × (connection_of self.new
+            ≡ connection_of (record self.old { output = drop (moved progress) self.old.output })))) }
     {
         let progress = world.write(index, self.output.rest());
         self.wrote(progress, now)
@@ -251,7 +263,8 @@ impl Stream {
 
     /// Takes note of what came of a write.
     fn wrote(&mut self, progress: Progress, now: Milliseconds) -> Step
-        ensures { self.new.output ≡ drop (moved progress) self.old.output }
+        ensures { connection_of self.new
+            ≡ connection_of (record self.old { output = drop (moved progress) self.old.output }) }
     {
         match progress {
             Progress::Bytes(0) | Progress::Failed => Step::Closes,
@@ -270,7 +283,10 @@ impl Stream {
 
     /// Handles the requests that have arrived, and holds their replies.
     fn handle<H: Handler>(&mut self, handler: &mut H, now: Milliseconds, is_busy: bool) -> Step
-        ensures { Performs H.steps handler.old handler.new (Answers is_busy self.old.peer now) }
+        requires { IsReady self.old }
+        ensures { Performs H.steps handler.old handler.new (λ calls.
+            Answers is_busy self.old.peer now calls
+            × CallsLeave (ends result) (connection_of self.old) calls (connection_of self.new)) }
     {
         match self.answer(handler, now, is_busy) {
             Ok(()) => Step::Moved,
@@ -286,7 +302,10 @@ impl Stream {
         now: Milliseconds,
         is_busy: bool,
     ) -> Result<(), AllocError>
-        ensures { Performs H.steps handler.old handler.new (Answers is_busy self.old.peer now) }
+        requires { IsReady self.old }
+        ensures { Performs H.steps handler.old handler.new (λ calls.
+            Answers is_busy self.old.peer now calls
+            × CallsLeave (is_err result) (connection_of self.old) calls (connection_of self.new)) }
     {
         let gathered = self.gather(handler)?;
         let requests = requests_of(self.alloc, gathered.as_slice(), self.peer, now)?;
@@ -301,8 +320,12 @@ impl Stream {
         now: Milliseconds,
         is_busy: bool,
     ) -> Result<(), AllocError>
-        ensures { Performs H.steps handler.old handler.new
-            (AreAnswered is_busy (map request_content requests.now)) }
+        requires { self.old.held.items ≡ [] }
+        ensures calls { Performs H.steps handler.old handler.new (λ calls.
+            AreAnswered is_busy (map request_content requests.now) calls
+            × IsAnswered (is_err result) (map request_content requests.now) calls
+            self.new.held.items) }
+        ensures kept { KeepsBytes self.old self.new }
     {
         match requests {
             [request] => self.respond_to_one(handler, requests, request, now, is_busy),
@@ -319,9 +342,13 @@ impl Stream {
         now: Milliseconds,
         is_busy: bool,
     ) -> Result<(), AllocError>
-        requires { map request_content requests.now ≡ request_content request.now ∷ [] }
-        ensures { Performs H.steps handler.old handler.new
-            (AreAnswered is_busy (request_content request.now ∷ [])) }
+        requires one { map request_content requests.now ≡ request_content request.now ∷ [] }
+        requires none_held { self.old.held.items ≡ [] }
+        ensures calls { Performs H.steps handler.old handler.new (λ calls.
+            AreAnswered is_busy (request_content request.now ∷ []) calls
+            × IsAnswered (is_err result) (request_content request.now ∷ []) calls
+            self.new.held.items) }
+        ensures kept { KeepsBytes self.old self.new }
     {
         match handler.transfer(request, is_busy)? {
             Some(messages) => self.hold_all(messages, now),
@@ -336,8 +363,12 @@ impl Stream {
         requests: &[Request<'_>],
         now: Milliseconds,
     ) -> Result<(), AllocError>
-        ensures { Performs H.steps handler.old handler.new
-            (AreHandled (map request_content requests.now)) }
+        requires { self.old.held.items ≡ [] }
+        ensures calls { Performs H.steps handler.old handler.new (λ calls.
+            AreHandled (map request_content requests.now) calls
+            × IsAnswered (is_err result) (map request_content requests.now) calls
+            self.new.held.items) }
+        ensures kept { KeepsBytes self.old self.new }
     {
         let deliveries = handler.handle(requests)?;
         self.is_transferring = false;
@@ -349,6 +380,7 @@ impl Stream {
         ensures held { OnOk result (self.new.held.items
             ≡ self.old.held.items ++ map (held_message now) messages.items) }
         ensures transferring { self.new.is_transferring ≡ true }
+        ensures kept { KeepsBytes self.old self.new }
     {
         self.is_transferring = true;
         for message in messages {
@@ -360,7 +392,9 @@ impl Stream {
     /// Takes the requests that have arrived and may be handled together, at most 64 of them. One that does not gather is taken alone,
     /// so that it is handled as if nothing had arrived with it.
     fn gather<H: Handler>(&mut self, handler: &H) -> Result<Vec<Vec<u8>>, AllocError>
-        ensures { self.new.peer ≡ self.old.peer }
+        ensures taken { IfOk result (λ gathered. AreTaken self.old.connection.input
+            (map message_bytes gathered.items) self.new.connection.input) }
+        ensures kept { KeepsReplies self.old self.new }
     {
         let mut gathered = Vec::new(self.alloc);
         for _request in 0..MAX_BATCH {
@@ -383,8 +417,9 @@ impl Stream {
 
     /// Holds replies until their moments.
     fn hold(&mut self, deliveries: Vec<Delivery>, now: Milliseconds) -> Result<(), AllocError>
-        ensures { OnOk result (self.new.held.items
+        ensures held { OnOk result (self.new.held.items
             ≡ self.old.held.items ++ map (held_reply now) deliveries.items) }
+        ensures kept { KeepsBytes self.old self.new }
     {
         for delivery in deliveries {
             self.held.push_back(HeldReply::new(delivery, now))?;
@@ -393,7 +428,9 @@ impl Stream {
     }
 
     /// Takes the held replies to the bytes that wait to be written, as far as their moments have come and there is room.
-    fn release(&mut self, now: Milliseconds) -> Step {
+    fn release(&mut self, now: Milliseconds) -> Step
+        ensures { StaysUnless (ends result) (connection_of self.old) (connection_of self.new) }
+    {
         let mut released = Step::Waits;
         for _reply in 0..MAX_BATCH {
             match self.next_due(now) {
@@ -411,6 +448,8 @@ impl Stream {
     fn next_due(&mut self, now: Milliseconds) -> Option<HeldReply>
         ensures due { IfSome result (λ held. held.moment ≤ now) }
         ensures first { self.old.held.items ≡ option_to_list result ++ self.new.held.items }
+        ensures open { IfSome result (λ held. self.old.is_closing ≡ false) }
+        ensures kept { KeepsBytes self.old self.new }
     {
         let is_due = match self.held.front() {
             Some(held) => held.moment <= now,
@@ -423,7 +462,10 @@ impl Stream {
     }
 
     /// Takes a reply to the bytes that wait to be written.
-    fn reply(&mut self, held: HeldReply) -> Step {
+    fn reply(&mut self, held: HeldReply) -> Step
+        requires { self.old.is_closing ≡ false }
+        ensures { StaysUnless (ends result) (released held self.old) (connection_of self.new) }
+    {
         let HeldReply {
             moment: _moment,
             reply,
@@ -452,7 +494,10 @@ impl Stream {
         buffer: &mut [u8],
         now: Milliseconds,
     ) -> Step
-        ensures { Performs W.performs world.old world.new (MayRead index) }
+        requires { IsReady self.old }
+        ensures { Performs W.performs world.old world.new (λ es. MayRead index es
+            × Leaves (ends result) index (connection_of self.old) (map At es)
+            (connection_of self.new)) }
     {
         if self.has_ended {
             return if self.output.rest().is_empty() {
@@ -473,6 +518,9 @@ impl Stream {
     fn read(&mut self, progress: Progress, buffer: &[u8], now: Milliseconds) -> Step
         requires room { length self.old.connection.input + length buffer.now ≤ max_input_len }
         requires within { IsWithin progress (length buffer.now) }
+        ensures { StaysUnless (ends result)
+            (read_after (bytes_read progress buffer.now) (connection_of self.old))
+            (connection_of self.new) }
     {
         match progress {
             Progress::Bytes(0) => {
@@ -492,6 +540,8 @@ impl Stream {
     /// Takes bytes that have arrived, for which there is room.
     fn received(&mut self, bytes: &[u8], now: Milliseconds) -> Step
         requires { length self.old.connection.input + length bytes.now ≤ max_input_len }
+        ensures { StaysUnless (ends result)
+            (read_after (Some bytes.now) (connection_of self.old)) (connection_of self.new) }
     {
         match self.connection.received(bytes) {
             Ok(()) => {

@@ -1,9 +1,10 @@
 //! The connections of a service.
 
-ghost use Rattle.std.specs.Prelude.{◌≡◌};
+ghost use Rattle.std.specs.Prelude.{◌≡◌, ◌++◌, [], ◌∷◌, true, false, IfSome, None, Some, map, slice_get, slice_set};
 ghost use Rattle.std.specs.List.{AllByRecursion};
 ghost use Rattle.dns_sockets.specs.Events.{Performs};
-ghost use Rattle.dns_sockets.specs.Trace.{IsAside, IsAsideEvent, Traces};
+ghost use Rattle.dns_sockets.specs.Connections.{AreFollowed, AreFollowedAside, AreKept};
+ghost use Rattle.dns_sockets.specs.Trace.{At, IsAside, IsAsideEvent, Traces};
 ghost use Rattle.dns_sockets.specs.World as events;
 ghost use Rattle.dns_sockets.specs.StreamTable.{IsLeastActive, closed_at, has_transfer, is_less_active, transfers};
 
@@ -41,7 +42,9 @@ impl Drop for StreamTable {
 
 impl StreamTable {
     /// Creates a table without connections, of which it takes `capacity`.
-    pub(crate) fn new(alloc: Global, capacity: usize) -> StreamTable {
+    pub(crate) fn new(alloc: Global, capacity: usize) -> StreamTable
+        ensures { result.slots.items ≡ [] }
+    {
         StreamTable {
             slots: Vec::new(alloc),
             capacity,
@@ -50,23 +53,41 @@ impl StreamTable {
     }
 
     /// Returns an index at which there is no connection. If there is none, the connection that has been idle for the longest
-    /// time is closed.
-    pub(crate) fn vacate<W: World>(&mut self, world: &mut W) -> usize
-        ensures { Performs W.performs world.old world.new (λ es.
-            AllByRecursion IsAsideEvent es) }
+    /// time is closed. Returns `None` if there is no memory for the first connection.
+    pub(crate) fn vacate<W: World>(&mut self, world: &mut W) -> Option<usize>
+        ensures events { Performs W.performs world.old world.new (λ es.
+            AllByRecursion IsAsideEvent es
+            × AreFollowedAside self.old.slots.items self.new.slots.items (map At es)) }
+        ensures vacant { IfSome result (λ index.
+            slice_get self.new.slots.items index ≡ Some None) }
     {
         if let Some(slot) = self.free_slot() {
-            return slot;
+            return Some(slot);
         }
         let count = self.slots.len();
-        if count < self.capacity && self.slots.push(None).is_ok() {
-            return count;
+        if self.grow() {
+            return Some(count);
         }
-        self.close_oldest(world)
+        if count == 0 {
+            return None;
+        }
+        Some(self.close_oldest(world))
+    }
+
+    /// Adds an index at which there is no connection. Returns `false` if there are as many as possible, or there is no memory for
+    /// another one.
+    fn grow(&mut self) -> bool
+        ensures grown { result ≡ true
+            → self.new.slots.items ≡ self.old.slots.items ++ None ∷ [] }
+        ensures full { result ≡ false → self.new.slots.items ≡ self.old.slots.items }
+    {
+        self.slots.len() < self.capacity && self.slots.push(None).is_ok()
     }
 
     /// Returns the first index at which there is no connection.
-    fn free_slot(&self) -> Option<usize> {
+    fn free_slot(&self) -> Option<usize>
+        ensures { IfSome result (λ index. slice_get self.now.slots.items index ≡ Some None) }
+    {
         self.slots.as_slice().iter().position(|slot| slot.is_none())
     }
 
@@ -82,7 +103,9 @@ impl StreamTable {
     }
 
     /// Puts a connection at an index. One that is there is closed.
-    pub(crate) fn put(&mut self, index: usize, stream: Stream) {
+    pub(crate) fn put(&mut self, index: usize, stream: Stream)
+        ensures { self.new.slots.items ≡ slice_set self.old.slots.items index (Some stream) }
+    {
         if index < self.slots.len() {
             self.slots[index] = Some(stream);
         }
@@ -100,7 +123,9 @@ impl StreamTable {
     }
 
     /// Takes note of what the system says that a connection is ready for. There may be no such connection any more.
-    pub(crate) fn note(&mut self, index: usize, is_readable: bool, is_writable: bool) {
+    pub(crate) fn note(&mut self, index: usize, is_readable: bool, is_writable: bool)
+        ensures { AreKept self.old.slots.items self.new.slots.items }
+    {
         if index < self.slots.len() {
             if let Some(stream) = &mut self.slots[index] {
                 stream.note(is_readable, is_writable);
@@ -117,7 +142,8 @@ impl StreamTable {
         buffer: &mut [u8],
     ) -> io::Result<()>
         ensures { Traces W.performs H.steps world.old handler.old world.new handler.new
-            (AllByRecursion IsAside) }
+            (λ acts. AllByRecursion IsAside acts
+            × AreFollowed self.old.slots.items self.new.slots.items acts) }
     {
         let now = world.now()?;
         let end = now.saturating_add(MAX_TURN);
@@ -143,7 +169,8 @@ impl StreamTable {
         transfers: &mut usize,
     ) -> io::Result<bool>
         ensures { Traces W.performs H.steps world.old handler.old world.new handler.new
-            (AllByRecursion IsAside) }
+            (λ acts. AllByRecursion IsAside acts
+            × AreFollowed self.old.slots.items self.new.slots.items acts) }
     {
         let is_busy = *transfers >= MAX_TRANSFERS;
         if !self.go_on_next(world, handler, buffer, now, is_busy) {
@@ -163,7 +190,8 @@ impl StreamTable {
         is_busy: bool,
     ) -> bool
         ensures { Traces W.performs H.steps world.old handler.old world.new handler.new
-            (AllByRecursion IsAside) }
+            (λ acts. AllByRecursion IsAside acts
+            × AreFollowed self.old.slots.items self.new.slots.items acts) }
     {
         if self.first >= self.slots.len() {
             self.first = 0;
@@ -184,7 +212,8 @@ impl StreamTable {
         is_busy: bool,
     ) -> bool
         ensures { Traces W.performs H.steps world.old handler.old world.new handler.new
-            (AllByRecursion IsAside) }
+            (λ acts. AllByRecursion IsAside acts
+            × AreFollowed self.old.slots.items self.new.slots.items acts) }
     {
         if index >= self.slots.len() {
             return false;
@@ -209,7 +238,9 @@ impl StreamTable {
     }
 
     /// Removes the places after the last connection.
-    fn trim(&mut self) {
+    fn trim(&mut self)
+        ensures { AreKept self.old.slots.items self.new.slots.items }
+    {
         for _slot in 0..self.slots.len() {
             if !matches!(self.slots.as_slice().last(), Some(None)) {
                 return;

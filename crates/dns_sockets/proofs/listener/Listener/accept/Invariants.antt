@@ -1,8 +1,10 @@
+-- What happened so far is allowed.
+use Rattle.std.proofs.Common.{map}
 use Rattle.std.specs.List.{AllByRecursion}
+use Rattle.dns_sockets.specs.Connections.{AreFollowed}
 use Rattle.dns_sockets.specs.Events.{Performs}
-use Rattle.dns_sockets.specs.Trace.{IsAsideEvent}
+use Rattle.dns_sockets.specs.Trace.{At, IsAsideEvent}
 use Rattle.dns_sockets.proofs.listener.Listener.accept.Given as goal
 
--- no event is about a datagram
 abbrev pub invariant-loop-connection : goal.invariant-loop-connection
-invariant-loop-connection g l = Performs g.W.World.performs l.initial.world l.world (AllByRecursion IsAsideEvent)
+invariant-loop-connection g l = Performs g.W.World.performs l.initial.world l.world (λ es. AllByRecursion IsAsideEvent es × AreFollowed l.initial.streams.slots.items l.streams.slots.items (map At es))

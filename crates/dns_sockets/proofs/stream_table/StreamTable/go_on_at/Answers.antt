@@ -1,16 +1,41 @@
-use Rattle.dns_sockets.specs.Trace.{IsAside}
-use Rattle.dns_sockets.specs.World.{Closed}
-use Rattle.dns_sockets.proofs.TraceLaws.{one_event, stream_aside, traces_all}
+use Rattle.std.proofs.Common.{◌≡◌, ◌∙◌, Option, Some, ap, arith, refl}
+use Rattle.std.specs.Prelude.{slice_get, slice_set}
+use Rattle.dns_sockets.specs.declared.stream.Stream.{Stream}
+use Rattle.dns_sockets.proofs.ConnectionLaws.{on_closed, on_kept, on_none, on_stream, set_kept}
+use Rattle.dns_sockets.proofs.StreamTableLaws.{found_at}
 use Rattle.dns_sockets.proofs.stream_table.StreamTable.go_on_at.Goals as goal
+
+pub returns-then-index-len : goal.returns-then-index-len
+returns-then-index-len g c = on_none g.W.World.performs g.H.Handler.steps c.args.self.now.slots.items c.args.world.now c.args.handler.now
+
+pub returns-in_default : goal.returns-in_default
+returns-in_default g c =
+    let slots = c.args.self.now.slots.items in
+    let found : slice_get slots c.args.index ≡ Some (Some c.in-Some.stream) =
+    found_at slots c.args.index c.index_mut.result.now (omega (arith, c.args.self.now.slots.ok, c.len.ensures, c.if-index-len.false)) c.index_mut.ensures.value ∙ ap Some c.in-Some.is in
+    on_kept g.W.World.performs g.H.Handler.steps slots slots (slice_set slots c.args.index (Some c.in-Some.stream)) c.args.world.now c.args.world.now c.args.handler.now c.args.handler.now
+    (on_none g.W.World.performs g.H.Handler.steps slots c.args.world.now c.args.handler.now) (set_kept slots c.args.index (Some c.in-Some.stream) found)
+
+pub returns-else-index-len : goal.returns-else-index-len
+returns-else-index-len g c =
+    let slots = c.args.self.now.slots.items in
+    let found : slice_get slots c.args.index ≡ Some c.index_mut.result.now =
+    found_at slots c.args.index c.index_mut.result.now (omega (arith, c.args.self.now.slots.ok, c.len.ensures, c.if-index-len.false)) c.index_mut.ensures.value in
+    on_kept g.W.World.performs g.H.Handler.steps slots slots (slice_set slots c.args.index c.index_mut.result.now) c.args.world.now c.args.world.now c.args.handler.now c.args.handler.now
+    (on_none g.W.World.performs g.H.Handler.steps slots c.args.world.now c.args.handler.now) (set_kept slots c.args.index c.index_mut.result.now found)
 
 pub returns-then-closes : goal.returns-then-closes
 returns-then-closes g c =
-    let performs = g.W.World.performs in
-    let steps = g.H.Handler.steps in
-    traces_all performs steps IsAside c.args.world.now c.go_on-closes.new.world c.close.new.world c.args.handler.now c.go_on-closes.new.handler c.go_on-closes.new.handler
-    (stream_aside performs steps c.args.index c.args.world.now c.go_on-closes.new.world c.args.handler.now c.go_on-closes.new.handler c.go_on-closes.ensures)
-    (one_event performs steps IsAside c.go_on-closes.new.world c.close.new.world c.go_on-closes.new.handler (Closed c.args.index) c.close.ensures.world tt)
+    let slots = c.args.self.now.slots.items in
+    let found : slice_get slots c.args.index ≡ Some (Some c.in-Some.stream) =
+    found_at slots c.args.index c.index_mut.result.now (omega (arith, c.args.self.now.slots.ok, c.len.ensures, c.if-index-len.false)) c.index_mut.ensures.value ∙ ap Some c.in-Some.is in
+    on_closed g.W.World.performs g.H.Handler.steps slots (slice_set slots c.args.index (Some c.go_on-closes.new.self)) c.close.new.self.slots.items c.args.index c.in-Some.stream c.go_on-closes.new.self
+    c.args.world.now c.go_on-closes.new.world c.close.new.world c.args.handler.now c.go_on-closes.new.handler found refl c.if-closes.ensures.acts c.close.ensures.world c.close.ensures.closed
 
 pub returns-else-closes : goal.returns-else-closes
 returns-else-closes g c =
-    stream_aside g.W.World.performs g.H.Handler.steps c.args.index c.args.world.now c.go_on-closes.new.world c.args.handler.now c.go_on-closes.new.handler c.go_on-closes.ensures
+    let slots = c.args.self.now.slots.items in
+    let found : slice_get slots c.args.index ≡ Some (Some c.in-Some.stream) =
+    found_at slots c.args.index c.index_mut.result.now (omega (arith, c.args.self.now.slots.ok, c.len.ensures, c.if-index-len.false)) c.index_mut.ensures.value ∙ ap Some c.in-Some.is in
+    on_stream g.W.World.performs g.H.Handler.steps slots (slice_set slots c.args.index (Some c.go_on-closes.new.self)) c.args.index c.in-Some.stream c.go_on-closes.new.self
+    c.args.world.now c.go_on-closes.new.world c.args.handler.now c.go_on-closes.new.handler found refl c.if-closes.ensures.acts
