@@ -1,5 +1,9 @@
 //! What the program does with requests, if it makes faults.
 
+ghost use Rattle.std.specs.Prelude.{◌≡◌, ◌⊎◌, IfOk, OnErr, None, map};
+ghost use Rattle.dns_sockets.specs.Handler.{request_content};
+ghost use Rattle.nameserver_handlers.specs.Logged.{Answers, AnswersAll, IsServed, LeavesAll, LeavesBy, serving};
+
 use crate::host::Host;
 use crate::notices::Notices;
 use crate::request_log::RequestLog;
@@ -29,11 +33,13 @@ pub struct LoggedServer<'a, R, W> {
 }
 
 impl<R: Host, W: Write> Handler for LoggedServer<'_, R, W> {
-    ghost use Rattle.std.specs.Prelude.{false, ⊤};
+    ghost use Rattle.std.specs.Prelude.{false};
+    ghost use Rattle.nameserver_handlers.specs.Logged.{Steps, serving};
 
     ghost gathers_after = { λ _ _. false };
 
-    ghost steps = { λ _ _ _. ⊤ };
+    ghost steps = { λ old event new. Steps (serving old.server old.recorder old.transfers) event
+        (serving new.server new.recorder new.transfers) };
 
     /// A fault may close a connection, so that no request after it is answered.
     fn gathers(&self, _bytes: &[u8]) -> bool {
@@ -41,11 +47,7 @@ impl<R: Host, W: Write> Handler for LoggedServer<'_, R, W> {
     }
 
     fn handle(&mut self, requests: &[Request<'_>]) -> Result<Vec<Delivery>, AllocError> {
-        let mut deliveries = Vec::new(self.rt.alloc());
-        for request in requests {
-            deliveries.push(self.answer(request)?)?;
-        }
-        Ok(deliveries)
+        self.answer_all(requests)
     }
 
     fn transfer(
@@ -76,21 +78,66 @@ impl<R: Host, W: Write> Handler for LoggedServer<'_, R, W> {
 }
 
 impl<R: Host, W: Write> LoggedServer<'_, R, W> {
+    /// Answers requests, one after another, and logs them.
+    fn answer_all(&mut self, requests: &[Request<'_>]) -> Result<Vec<Delivery>, AllocError>
+        ensures ok { IfOk result (λ deliveries. AnswersAll
+            (serving self.old.server self.old.recorder self.old.transfers)
+            (map request_content requests.now) deliveries.items
+            (serving self.new.server self.new.recorder self.new.transfers)) }
+        ensures err { OnErr result (LeavesAll
+            (serving self.old.server self.old.recorder self.old.transfers)
+            (map request_content requests.now)
+            (serving self.new.server self.new.recorder self.new.transfers)) }
+    {
+        let mut deliveries = Vec::new(self.rt.alloc());
+        for request in requests {
+            deliveries.push(self.answer(request)?)?;
+        }
+        Ok(deliveries)
+    }
+
     /// Answers a request, and logs it.
-    fn answer(&mut self, request: &Request<'_>) -> Result<Delivery, AllocError> {
+    fn answer(&mut self, request: &Request<'_>) -> Result<Delivery, AllocError>
+        ensures ok { IfOk result (λ delivery. Answers
+            (serving self.old.server self.old.recorder self.old.transfers)
+            (request_content request.now) delivery
+            (serving self.new.server self.new.recorder self.new.transfers)) }
+        ensures err { OnErr result (LeavesBy
+            (serving self.old.server self.old.recorder self.old.transfers)
+            (request_content request.now)
+            (serving self.new.server self.new.recorder self.new.transfers)) }
+    {
         let answered = self.answered(request)?;
+        self.tell(request, &answered);
+        Ok(answered.delivery)
+    }
+
+    /// Logs a request, and notifies secondaries if it has changed records.
+    fn tell(&mut self, request: &Request<'_>, answered: &Answered)
+        ensures server { self.new.server ≡ self.old.server }
+        ensures recorder { self.new.recorder ≡ self.old.recorder }
+        ensures transfers { self.new.transfers ≡ self.old.transfers }
+    {
         if let Some(log) = &mut self.log {
-            log.append_request(self.rt, request, &answered);
+            log.append_request(self.rt, request, answered);
         }
         if answered.has_updated {
             self.notices
                 .follow(self.rt, self.server.zones.server.zones(), request.moment);
         }
-        Ok(answered.delivery)
     }
 
     /// Returns what a request leads to.
-    fn answered(&mut self, request: &Request<'_>) -> Result<Answered, AllocError> {
+    fn answered(&mut self, request: &Request<'_>) -> Result<Answered, AllocError>
+        ensures ok { IfOk result (λ answered. Answers
+            (serving self.old.server self.old.recorder self.old.transfers)
+            (request_content request.now) answered.delivery
+            (serving self.new.server self.new.recorder self.new.transfers)) }
+        ensures err { OnErr result (LeavesBy
+            (serving self.old.server self.old.recorder self.old.transfers)
+            (request_content request.now)
+            (serving self.new.server self.new.recorder self.new.transfers)) }
+    {
         let sources = Sources {
             zones: self.server.zones.server.zones(),
             histories: self.recorder.histories(),
@@ -111,7 +158,16 @@ impl<R: Host, W: Write> LoggedServer<'_, R, W> {
     }
 
     /// Answers a request by the name server, and records what it has changed.
-    fn recorded(&mut self, request: &Request<'_>) -> Result<Answered, AllocError> {
+    fn recorded(&mut self, request: &Request<'_>) -> Result<Answered, AllocError>
+        ensures served { IfOk result (λ answered. IsServed
+            (serving self.old.server self.old.recorder self.old.transfers)
+            (request_content request.now) answered.delivery
+            (serving self.new.server self.new.recorder self.new.transfers)) }
+        ensures left { LeavesBy
+            (serving self.old.server self.old.recorder self.old.transfers)
+            (request_content request.now)
+            (serving self.new.server self.new.recorder self.new.transfers) }
+    {
         let answered = self.server.answer(
             self.rt.alloc(),
             request.bytes,

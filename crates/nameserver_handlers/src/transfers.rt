@@ -1,5 +1,12 @@
 //! Transfers of zones.
 
+ghost use Rattle.std.specs.Prelude.{◌≡◌, ◌&&◌, not, Bool, IfOk, option_map};
+ghost use Rattle.dns_nameserver.specs.NameServer.{IsCoverageOf};
+ghost use Rattle.dns_sockets.specs.Handler.{message_bytes, messages_of, request_content};
+ghost use Rattle.dns_transfers.specs.replies.Reply.{Replies};
+ghost use Rattle.dns_zone.specs.declared.transport.Transport.TheVariants as transports;
+ghost use Rattle.nameserver_handlers.specs.Transferring.{AreTerms, TransferByDatagram, TransferIf, content_of, last_of, offers_by_datagram};
+
 use crate::clock::WallClock;
 use crate::request_log::RequestLog;
 use dns_faults::Delivery;
@@ -11,6 +18,7 @@ use dns_tsig::Key;
 use dns_zone::{Transport, Zone};
 use std::alloc::{AllocError, Global};
 use std::io::{Eprint, Write};
+use std::net::IpAddr;
 use std::time::Clock;
 
 /// What is transferred.
@@ -45,16 +53,15 @@ impl Transfers {
         request: &Request<'_>,
         is_busy: bool,
         log: &mut Option<RequestLog<W>>,
-    ) -> Result<Option<Vec<Vec<u8>>>, AllocError> {
+    ) -> Result<Option<Vec<Vec<u8>>>, AllocError>
+        ensures { IfOk result (λ found. TransferIf self.now.are_offered (content_of sources.entry)
+            self.now is_busy transports.Stream (request_content request.now)
+            (messages_of found)) }
+    {
         if !self.are_offered {
             return Ok(None);
         }
-        let is_permitted = !is_busy && self.secondaries.contains(request.peer.ip());
-        let terms = Terms {
-            transport: Transport::Stream,
-            is_permitted,
-            time: self.clock.seconds(rt, request.moment),
-        };
+        let terms = self.terms(rt, request, Transport::Stream, is_busy);
         let found = reply_to(rt.alloc(), sources, request, &terms)?;
         if let (Some(messages), Some(log)) = (&found, log) {
             log_first(rt, log, request, messages.as_slice())?;
@@ -69,21 +76,61 @@ impl Transfers {
         sources: Sources<'_>,
         request: &Request<'_>,
         transport: Transport,
-    ) -> Result<Option<Vec<u8>>, AllocError> {
-        let may_ask = request.transport == RequestTransport::Datagram
-            && may_ask_by_datagram(request.bytes);
-        if !self.are_offered || !may_ask {
+    ) -> Result<Option<Vec<u8>>, AllocError>
+        ensures { IfOk result (λ found. TransferByDatagram (content_of sources.entry) self.now
+            transport (request_content request.now) (option_map message_bytes found)) }
+    {
+        if !self.offers_by_datagram(request) {
             return Ok(None);
         }
-        let terms = Terms {
-            transport,
-            is_permitted: self.secondaries.contains(request.peer.ip()),
-            time: self.clock.seconds(rt, request.moment),
-        };
-        match reply_to(rt.alloc(), sources, request, &terms)? {
-            Some(mut messages) => Ok(messages.pop()),
-            None => Ok(None),
+        let terms = self.terms(rt, request, transport, false);
+        Ok(last_of(reply_to(rt.alloc(), sources, request, &terms)?))
+    }
+
+    /// Returns `true` if transfers are offered in datagrams for a request.
+    fn offers_by_datagram(&self, request: &Request<'_>) -> bool
+        ensures { result ≡ offers_by_datagram self.now (request_content request.now) }
+    {
+        match request.transport {
+            RequestTransport::Datagram => self.are_offered && may_ask_by_datagram(request.bytes),
+            RequestTransport::Stream => false,
         }
+    }
+
+    /// Returns what decides on the reply to a request for a transfer, beside its bytes.
+    fn terms<R: Clock>(
+        &self,
+        rt: &R,
+        request: &Request<'_>,
+        transport: Transport,
+        is_busy: bool,
+    ) -> Terms
+        ensures { AreTerms self.now.secondaries is_busy transport request.now.peer result }
+    {
+        Terms {
+            transport,
+            is_permitted: self.may_transfer(request.peer.ip(), is_busy),
+            time: self.clock.seconds(rt, request.moment),
+        }
+    }
+
+    /// Returns `true` if zones are transferred to an address, unless the server is busy.
+    fn may_transfer(&self, address: IpAddr, is_busy: bool) -> bool
+        ensures { (covered : Bool) × (IsCoverageOf self.now.secondaries address covered
+            × (result ≡ (not is_busy && covered))) }
+    {
+        let is_covered = self.secondaries.contains(address);
+        !is_busy && is_covered
+    }
+}
+
+/// Returns the last message of a reply, if there is one.
+fn last_of(found: Option<Vec<Vec<u8>>>) -> Option<Vec<u8>>
+    ensures { option_map message_bytes result ≡ last_of (messages_of found) }
+{
+    match found {
+        Some(mut messages) => messages.pop(),
+        None => None,
     }
 }
 
@@ -93,7 +140,10 @@ fn reply_to(
     sources: Sources<'_>,
     request: &Request<'_>,
     terms: &Terms,
-) -> Result<Option<Vec<Vec<u8>>>, AllocError> {
+) -> Result<Option<Vec<Vec<u8>>>, AllocError>
+    ensures { IfOk result (λ found. Replies sources.entry.zones.now sources.entry.histories.now
+        sources.entry.keys.now terms.now request.now.bytes.now (messages_of found)) }
+{
     let Sources {
         zones,
         histories,

@@ -1,0 +1,2 @@
+pub mod Transferring
+pub mod Logged
