@@ -1,0 +1,24 @@
+use Rattle.std.proofs.Common.{rules, ◌≡◌, ◌∙◌, ◌==◌, ap, refl, subst, codes, inl, inr, length, ℕ, List, [], Bool, true, false, slice_index_or, Vec, Global}
+use Rattle.std.specs.List.{AllZip, list_any}
+use Rattle.std.proofs.lemmas.Result.{IfErr-weaker, IfOk-weaker}
+use Rattle.clap.specs.Words.{app_of}
+use Rattle.clap.proofs.WalkLemmas.{list_any-map}
+use Rattle.lookup_cli.specs.Arguments.{AreArguments, AreItems, IsItemFor, IsInvalid, IsRefusal, IsRefusalOf, found, found_in, is_given, is_input, of_key_name, of_strategy, of_timeout, of_type, of_zone, texts_of}
+use Rattle.lookup_cli.specs.Values.{IsServer, SpellsName, no_strategy, no_timeout, no_type}
+use Rattle.lookup_cli.proofs.ArgumentsLaws.{found_is, invalid, items_more, items_refusal, items_same, no_name_refusal, passes, search_refusal, servers_refusal, texts_are, texts_now, values_more, words_refusal}
+use Rattle.lookup_cli.specs.declared.answers.item.Item.{Item}
+use Rattle.lookup_cli.proofs.arguments.items_of.Goals as goal
+use Rattle.lookup_cli.proofs.arguments.items_of.Goals.{then-not-is_input+in_ok-item_of+in_ok-push, else-not-is_input}
+
+pub loop-text-preserved : goal.loop-text-preserved
+loop-text-preserved c = elim c.if-not-is_input.branch [
+  | then-not-is_input+in_ok-item_of+in_ok-push w ↦
+    let other : is_input (slice_index_or c.args.texts.now c.loop-text.text-index (record { ref_ptr = (0, 0); now = [] })).now ≡ false = search rules in
+    items_more (IsItemFor c.args.question c.args.reverse (length c.args.texts.now == 1)) c.args.texts.now c.loop-text.items.items c.if-not-is_input.items.items
+    c.loop-text.text-index (record { ref_ptr = (0, 0); now = [] }) w.in_ok-item_of.field-0 c.loop-text-test.true other c.loop-text.invariant w.in_ok-item_of.ensures.item
+    (ap (λ (v : Vec Item Global). v.items) w.items-is ∙ w.in_ok-push.ensures.items)
+  | else-not-is_input w ↦
+    let is : is_input (slice_index_or c.args.texts.now c.loop-text.text-index (record { ref_ptr = (0, 0); now = [] })).now ≡ true = search rules in
+    items_same (IsItemFor c.args.question c.args.reverse (length c.args.texts.now == 1)) c.args.texts.now c.loop-text.items.items c.if-not-is_input.items.items
+    c.loop-text.text-index (record { ref_ptr = (0, 0); now = [] }) c.loop-text-test.true is c.loop-text.invariant (ap (λ (v : Vec Item Global). v.items) w.items-is)
+]
