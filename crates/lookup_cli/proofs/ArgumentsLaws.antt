@@ -19,9 +19,6 @@ use Rattle.lookup_cli.specs.declared.answers.item.Question.{Question}
 use Rattle.lookup_cli.specs.declared.ending.Ending.{Ending}
 use Rattle.lookup_cli.specs.declared.ending.Ending.TheVariants.{Arguments, InvalidValue, NotUtf8, ZoneWithoutUpdate, CannotRead, HostsNotUtf8, InvalidKeys, NoKey, CannotReadInput, CannotPrint, NoClock, NoEntropy, Memory}
 
-
-
-
 abbrev pub texts_now : List (Bor (List ℕ)) → List (List ℕ)
 texts_now = map (λ text. text.now)
 

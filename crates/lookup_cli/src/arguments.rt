@@ -353,10 +353,7 @@ fn names_of(alloc: Global, texts: &[&str]) -> Result<Vec<Name>, Ending>
 }
 
 /// Returns the types of addresses.
-fn strategy_in(
-    alloc: Global,
-    matches: &ArgMatches<'_>,
-) -> Result<Option<LookupIpStrategy>, Ending>
+fn strategy_in(alloc: Global, matches: &ArgMatches<'_>) -> Result<Option<LookupIpStrategy>, Ending>
     ensures strategy { IfOk result (IsOf (λ text strategy. strategy_of text ≡ Some strategy)
         (first_of (codes "strategy") (found matches.now))) }
     ensures refused { IfErr result (IsRefusal (found matches.now)) }

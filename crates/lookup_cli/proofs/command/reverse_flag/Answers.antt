@@ -5,6 +5,6 @@ use Rattle.lookup_cli.proofs.CommandLaws.{excludes, numbered, requires, shortene
 use Rattle.lookup_cli.proofs.command.reverse_flag.Goals as goal
 
 pub returns : goal.returns
-returns c = 
+returns c =
     IfOk-weaker c.conflicts_with.result _ _ (λ arg adds. excludes (with_short 120 (flag (codes "reverse"))) c.short.result arg _
     (shortened (flag (codes "reverse")) c.flag.result c.short.result 120 c.flag.ensures c.short.ensures) adds) c.conflicts_with.ensures

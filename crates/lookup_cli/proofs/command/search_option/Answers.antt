@@ -5,5 +5,5 @@ use Rattle.lookup_cli.proofs.CommandLaws.{excludes, numbered, requires, shortene
 use Rattle.lookup_cli.proofs.command.search_option.Goals as goal
 
 pub returns : goal.returns
-returns c = 
+returns c =
     IfOk-weaker c.conflicts_with.result _ _ (λ arg adds. excludes (list (codes "search")) c.list.result arg _ c.list.ensures adds) c.conflicts_with.ensures

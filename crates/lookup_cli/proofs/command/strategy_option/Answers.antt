@@ -5,6 +5,6 @@ use Rattle.lookup_cli.proofs.CommandLaws.{excludes, numbered, requires, shortene
 use Rattle.lookup_cli.proofs.command.strategy_option.Goals as goal
 
 pub returns : goal.returns
-returns c = 
+returns c =
     IfOk-weaker c.conflicts_with.result _ _ (λ arg adds. excludes (option (codes "strategy")) c.option.result arg _ c.option.ensures adds)
     c.conflicts_with.ensures

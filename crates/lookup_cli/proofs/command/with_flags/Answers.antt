@@ -5,7 +5,7 @@ use Rattle.lookup_cli.proofs.CommandLaws.{excludes, numbered, requires, shortene
 use Rattle.lookup_cli.proofs.command.with_flags.Goals as goal
 
 pub returns : goal.returns
-returns c = 
+returns c =
     IfOk-weaker c.arg-6.result _ _ (λ other adds.
     with_arg adds c.flag-6.ensures
     (with_arg c.in_ok-arg-5.ensures c.flag-5.ensures

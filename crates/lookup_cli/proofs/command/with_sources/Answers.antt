@@ -5,7 +5,7 @@ use Rattle.lookup_cli.proofs.CommandLaws.{excludes, numbered, requires, shortene
 use Rattle.lookup_cli.proofs.command.with_sources.Goals as goal
 
 pub returns : goal.returns
-returns c = 
+returns c =
     IfOk-weaker c.arg-5.result _ _ (λ other adds.
     with_arg adds c.in_ok-ndots_option.ensures
     (with_arg c.in_ok-arg-4.ensures c.in_ok-search_option.ensures

@@ -5,7 +5,7 @@ use Rattle.lookup_cli.proofs.CommandLaws.{excludes, numbered, requires, shortene
 use Rattle.lookup_cli.proofs.command.with_update.Goals as goal
 
 pub returns : goal.returns
-returns c = 
+returns c =
     IfOk-weaker c.arg-2.result _ _ (λ other adds.
     with_arg adds (requires (option (codes "zone")) c.option-zone.result c.in_ok-requires_arg-2.field-0 _ c.option-zone.ensures c.in_ok-requires_arg-2.ensures)
     (with_arg c.in_ok-arg.ensures

@@ -8,8 +8,11 @@ use Rattle.lookup_cli.proofs.values.check_name.Goals as goal
 pub returns-in-Some-clause-refused : goal.returns-in-Some-clause-refused
 returns-in-Some-clause-refused c =
     let is : dig_word c.args.text.now c.args.is_alone ≡ Some c.in-Some.word = search rules in
-    inr (advice_on c.in-Some.word, is_word c.in-Some.word is,
-    subst (λ reason. IsOfInvalidValue (codes "NAME") c.args.text.now reason c.invalid.result) c.advice_on.ensures c.invalid.ensures)
+    inr (
+      advice_on c.in-Some.word,
+      is_word c.in-Some.word is,
+      subst (λ reason. IsOfInvalidValue (codes "NAME") c.args.text.now reason c.invalid.result) c.advice_on.ensures c.invalid.ensures,
+    )
 
 pub returns-in-None-clause-refused : goal.returns-in-None-clause-refused
 returns-in-None-clause-refused c =
