@@ -1,7 +1,7 @@
 -- What clap finds, and what it leads to.
-use Rattle.std.proofs.Common.{rules, ◌≡◌, ◌∙◌, ◌≢◌, ◌⊎◌, ◌+◌, ◌<◌, ◌++◌, ap, refl, sym, subst, arith, inl, inr, ℕ, Bool, true, false, not, cond, List, [], ◌∷◌, Bor, Option, Some, None, Result, IfErr, IsErrAnd, codes, length, map, take, append-nil, ◌==◌, option_map, unwrap_or}
-use Rattle.std.specs.List.{AllZip, Contains, filter, slice_index_or}
-use Rattle.std.proofs.lemmas.List.{get_or-map, length-map, map-append, take_more}
+use Rattle.std.proofs.Common.{rules, ◌≡◌, ◌∙◌, ◌+◌, ◌<◌, ◌++◌, ap, refl, subst, inl, inr, ℕ, Bool, true, false, not, List, [], ◌∷◌, Bor, Option, Some, None, Result, IfErr, IsErrAnd, codes, length, map, take, append-nil, ◌==◌, option_map, unwrap_or}
+use Rattle.std.specs.List.{AllZip, Contains, slice_index_or}
+use Rattle.std.proofs.lemmas.List.{map-append, take_more}
 use Rattle.std.proofs.lemmas.List.Elements.{filter-append}
 use Rattle.std.proofs.lemmas.Slice.Zip.{all_zipped_more}
 use Rattle.std.proofs.lemmas.Result.{err_from_is_err_and}
@@ -9,13 +9,10 @@ use Rattle.clap.specs.Words.{App, HasMatchesOf, Row, found_of, is_simple, matche
 use Rattle.clap.proofs.WalkLemmas.{raw_values-rows}
 use Rattle.clap.specs.declared.parser.matches.ArgMatches.{ArgMatches}
 use Rattle.clap.proofs.OnLiterals.{clap_on_literals}
-use Rattle.lookup_cli.specs.Arguments.{AreItems, IsInvalid, IsItemFor, IsItemRefusal, IsRefusal, IsRefusalAmong, IsRefusalOf, IsServerRefusal, IsUpdateRefusal, found, found_in, is_input, names_among, of_name, of_search, of_server, texts_of}
+use Rattle.lookup_cli.specs.Arguments.{IsInvalid, IsItemRefusal, IsRefusal, IsRefusalAmong, IsRefusalOf, IsServerRefusal, found, found_in, is_input, names_among, of_name, of_search, of_server, texts_of}
 use Rattle.lookup_cli.specs.Command.{lookup_app}
 use Rattle.lookup_cli.specs.Ending.{IsOfInvalidValue}
-use Rattle.lookup_cli.specs.Values.{IsNameRefusal, IsNoName, IsNotLookedUp, IsNotLookedUpRefusal, no_name, no_server}
-use Rattle.lookup_cli.specs.answers.Item.{Reverses}
-use Rattle.lookup_cli.specs.declared.answers.item.Item.{Item}
-use Rattle.lookup_cli.specs.declared.answers.item.Question.{Question}
+use Rattle.lookup_cli.specs.Values.{IsNameRefusal, IsNoName, IsNotLookedUp, no_name, no_server}
 use Rattle.lookup_cli.specs.declared.ending.Ending.{Ending}
 use Rattle.lookup_cli.specs.declared.ending.Ending.TheVariants.{Arguments, InvalidValue, NotUtf8, ZoneWithoutUpdate, CannotRead, HostsNotUtf8, InvalidKeys, NoKey, CannotReadInput, CannotPrint, NoClock, NoEntropy, Memory}
 

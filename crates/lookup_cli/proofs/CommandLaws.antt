@@ -1,5 +1,5 @@
 -- Arguments with rules on others, and commands with further arguments.
-use Rattle.std.proofs.Common.{rules, arith, length, length-append, ◌<◌, ◌≡◌, ◌∙◌, ◌&&◌, ◌++◌, ap, refl, Bool, true, false, not, ℕ, List, [], ◌∷◌, Bor, Option, Some}
+use Rattle.std.proofs.Common.{arith, length, length-append, ◌<◌, ◌≡◌, ◌∙◌, ◌&&◌, ◌++◌, ap, refl, Bool, true, false, not, ℕ, List, [], ◌∷◌, Bor, Option, Some}
 use Rattle.std.proofs.lemmas.Grind.{common_steps}
 use Rattle.clap.specs.Adds.{AddsConflicts, AddsRequiredUnless, AddsRequirements}
 use Rattle.clap.specs.Walk.{is_empty, is_free_arg}

@@ -9,7 +9,6 @@ use Rattle.clap.specs.Words.{Row, all_of, first_of, found_of, matches_of, one_of
 use Rattle.clap.specs.declared.error.kind.ErrorKind.TheVariants.{OutOfMemory}
 use Rattle.clap.specs.declared.parser.matches.ArgMatches.{ArgMatches}
 use Rattle.dns_fields.specs.bitmaps.TypeWord.{type_of_word}
-use Rattle.dns_names.specs.Name.{DomainName}
 use Rattle.dns_text.specs.Address.{IsTextOf}
 use Rattle.lookup_cli.specs.Command.{lookup_app}
 use Rattle.lookup_cli.specs.Ending.{IsOfInvalidValue, invalid_text}

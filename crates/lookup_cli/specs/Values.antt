@@ -6,7 +6,6 @@ use Rattle.std.specs.Net.Socket.{IsPlainSocket, socket_ip, socket_port}
 use Rattle.std.specs.Str.{bytes_eq}
 use Rattle.std.specs.declared.net.ip_addr.IpAddr.{IpAddr}
 use Rattle.std.specs.declared.net.socket_addr.SocketAddr.{SocketAddr}
-use Rattle.dns_fields.specs.bitmaps.TypeWord.{type_of_word}
 use Rattle.dns_names.specs.Name.{DomainName}
 use Rattle.dns_names.specs.Parse.{name_of_text}
 use Rattle.dns_names.specs.declared.error.ParseError.{ParseError}

@@ -1,8 +1,8 @@
 //! The arguments of the program.
 
-ghost use Rattle.std.specs.Prelude.{◌≡◌, ◌==◌, IfErr, IfOk, Some, codes, length, map, not, option_map, string_bytes};
+ghost use Rattle.std.specs.Prelude.{◌≡◌, ◌==◌, IfErr, IfOk, Some, codes, length, map, option_map, string_bytes};
 ghost use Rattle.std.specs.List.{AllZip, list_any};
-ghost use Rattle.clap.specs.Words.{first_of, one_of};
+ghost use Rattle.clap.specs.Words.{first_of};
 ghost use Rattle.lookup_cli.specs.Arguments.{AreArguments, AreItems, AreLists, ArePaths, IsItemFor};
 ghost use Rattle.lookup_cli.specs.Arguments.{IsItemRefusal, IsKey, IsOf, IsQuestion, IsRefusal, IsRefusalAmong};
 ghost use Rattle.lookup_cli.specs.Arguments.{IsRefusalOf, IsReversedIf, IsServerRefusal, IsTask, IsUpdate, IsUpdateRefusal};

@@ -1,7 +1,7 @@
 //! The command of the arguments, for clap.
 
-ghost use Rattle.std.specs.Prelude.{◌≡◌, IfOk, codes, false};
-ghost use Rattle.clap.specs.Words.{app_of, rule_of};
+ghost use Rattle.std.specs.Prelude.{◌≡◌, IfOk, codes};
+ghost use Rattle.clap.specs.Words.{app_of};
 ghost use Rattle.lookup_cli.specs.Command.{IsArg, bare_app, between, bound, flag, flag_rules};
 ghost use Rattle.lookup_cli.specs.Command.{item_rules, key_rules, list, lookup_app, names_rule, number};
 ghost use Rattle.lookup_cli.specs.Command.{option, source_rules, time_rules, update_rules};

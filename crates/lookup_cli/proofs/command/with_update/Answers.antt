@@ -1,7 +1,7 @@
-use Rattle.std.proofs.Common.{rules, ◌≡◌, codes, refl, Some}
+use Rattle.std.proofs.Common.{codes, refl}
 use Rattle.std.proofs.lemmas.Result.{IfOk-weaker}
-use Rattle.lookup_cli.specs.Command.{between, bound, flag, list, number, option, with_short}
-use Rattle.lookup_cli.proofs.CommandLaws.{excludes, numbered, requires, shortened, with_arg}
+use Rattle.lookup_cli.specs.Command.{option}
+use Rattle.lookup_cli.proofs.CommandLaws.{requires, with_arg}
 use Rattle.lookup_cli.proofs.command.with_update.Goals as goal
 
 pub returns : goal.returns
