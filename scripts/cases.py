@@ -37,11 +37,12 @@ def read_case(path, kind):
 
 
 def write_files(folder, files):
-    """Writes the files of a case, which may be in folders."""
+    """Writes the files of a case, which may be in folders. No other user may read them, as it should be with keys."""
     for name, data in files.items():
         path = Path(folder, name)
         path.parent.mkdir(parents=True, exist_ok=True)
         path.write_bytes(data)
+        path.chmod(0o600)
 
 
 def run(program, name, words, files, stdin=b""):

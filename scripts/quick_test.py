@@ -24,7 +24,7 @@ CASES = {
     "lookup": (("resolver",),),
     "stub": (("program",), ("sockets", "strangers"), ("refusals", "stub")),
     "zonecheck": (("zonecheck",), ("refusals", "zonecheck")),
-    "nameserver": (("nameserver",),),
+    "nameserver": (("nameserver",), ("refusals", "nameserver")),
     "rows": (("refusals", "rows"),),
 }
 # The crate of the library for C, and what `./library` links it with.

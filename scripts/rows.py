@@ -678,6 +678,10 @@ def place_of(program, word, count):
     return "; ".join([*places, *([LATER[program].get(word, LATER[program]["*"])] if left else [])])
 
 
+# How many rows of a file no former program had: what is said of replies to signed requests.
+ADDED = {"sentences": 12}
+
+
 def main():
     files = list(all_files())
     by_file, now = file_table(files)
@@ -688,8 +692,9 @@ def main():
     files = (ROOT / "check" / "harness" / "rows" / "data").glob("*.rows")
     # The rows of failing.rows show that a row can fail, and those of the others are made by check/hostile.
     counts = [sum(rows_of(it).values()) for it in files if it.stem not in ("failing", *MUTATED)]
-    if sum(counts) != now:
-        print(f"rows.py: {sum(counts)} rows in rows, and {now} by the table")
+    wanted = now + sum(ADDED.values())
+    if sum(counts) != wanted:
+        print(f"rows.py: {sum(counts)} rows in rows, and {wanted} by the table")
         return 1
     return 0
 

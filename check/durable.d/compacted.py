@@ -11,8 +11,9 @@ from servers import ZONE, Refused, Server
 
 # Lets no file grow beyond so many blocks of 1,024 bytes.
 SMALL_FILES = ["bash", "-c", 'ulimit -f 8; trap "" XFSZ; exec "$@"', "bash"]
-# Lets each synchronization of a whole file take 200 ms.
+# Lets each synchronization of a whole file take 200 ms, or each one of the data of the journal.
 SLOW_DISK = ["strace", "-f", "-qq", "-o", "/dev/null", "-e", "trace=fsync", "-e", "inject=fsync:delay_enter=200000"]
+SLOW_JOURNAL = [it.replace("fsync", "fdatasync") for it in SLOW_DISK]
 LIMIT = ("--journal-limit", "4096")
 
 
@@ -101,6 +102,33 @@ def edited_meanwhile(given, folder):
         yield f"after an edit, {left_over(folder)} is left"
 
 
+def edited_at_last(given, folder):
+    """An edit after the new text was written, before it takes its name: it is not overwritten, and the refusal says why."""
+    (folder / "zone").write_text(ZONE)
+    server = Server(given.program, folder)
+    server.add(1, "n1.example.")
+    server.kill()
+    length = (folder / "journal").stat().st_size
+    edited = f"{ZONE}; by hand\n"
+
+    def edit():
+        # The journal has the mark of the new text.
+        while (folder / "journal").stat().st_size == length:
+            time.sleep(0.001)
+        (folder / "zone").write_text(edited)
+
+    thread = threading.Thread(target=edit, daemon=True)
+    thread.start()
+    done = compact(given, folder, SLOW_JOURNAL)
+    thread.join(10)
+    if (folder / "zone").read_text() != edited:
+        yield "an edit that was made after the new text was written is overwritten"
+    if done.returncode != 1 or not done.stderr.endswith(": the zone file was edited since it was read\n"):
+        yield f"--compact after an edit ends with {done.returncode}: {done.stderr}"
+    if left_over(folder):
+        yield f"after an edit, {left_over(folder)} is left"
+
+
 def without_room(given, folder):
     """A new text for which there is no room: the journal goes on, nothing else is written to it, and no file is left."""
     hosts = "".join(f"host{number} 60 IN A 192.0.2.1\n" for number in range(400))
@@ -161,6 +189,6 @@ def edited_under_journal(given, folder):
 
 def compacted(given):
     """Each of these, in a folder of its own."""
-    for tried in (mode_and_link, relative_names, edited_meanwhile, without_room, edited_under_journal):
+    for tried in (mode_and_link, relative_names, edited_meanwhile, edited_at_last, without_room, edited_under_journal):
         with tempfile.TemporaryDirectory() as name:
             yield from tried(given, Path(name))

@@ -1,12 +1,15 @@
 """Cases of check/nameserver: their parts, and how a run differs from what they want."""
+import fcntl
 import random
 import re
+import tempfile
+from pathlib import Path
 
 import histories
 import journals
 import signed
 import sockets
-from cases import program_check
+from cases import MEMORY, program_check
 
 LOADED = re.compile(rb"(?m)^\S+: zone \S+, \d+ records, loaded in \d+ ms\n")
 
@@ -36,6 +39,8 @@ class Case(program_check.Case):
             self.runs += [Crashes(self, *line.split(" > ")) for line in lines]
         elif title == ["written"]:
             self.runs += [Written(self, line) for line in lines]
+        elif title == ["locked"]:
+            self.runs += [Locked(self, *line.split(" > ")) for line in lines]
         else:
             super().take(path, title, body)
 
@@ -111,6 +116,23 @@ class Written(Told):
         if data != journals.journal(self.files["zone"], data[40:56], map(journals.payload, self.numbers)):
             return f"another journal: {data.hex()}"
         return journals.told(start(words, {**self.files, "script": journals.QUESTION, "journal": data}))
+
+
+class Locked(Told):
+    """A server of a journal whose lock file another process holds: what it says."""
+
+    def __init__(self, case, text, wanted):
+        super().__init__(case, wanted)
+        self.text = "" if text == "-" else text
+
+    def told(self, start):
+        with tempfile.TemporaryDirectory(dir=MEMORY) as folder, open(Path(folder, "journal.lock"), "w", encoding="ascii") as lock:
+            fcntl.flock(lock, fcntl.LOCK_EX)
+            lock.write(self.text)
+            lock.flush()
+            journal = str(Path(folder, "journal"))
+            got = start([*self.words, b"--journal", journal.encode()], {**self.files, "script": journals.QUESTION})
+        return LOADED.sub(b"", got["stderr"]).decode().replace(journal, "journal").rstrip("\n")
 
 
 class Wide(Told):

@@ -35,56 +35,6 @@ WITH_UPDATE: List[List[str]] = [
     ["--type", "A"], ["-t", "A"], ["--reverse"], ["-x"], ["--search", "t."], ["--ndots", "2"], ["--strategy", "ipv4"], ["--no-edns"],
     ["--no-cache"],
 ]  # fmt: skip
-# Names that are written as for `dig`, and what to write in their place.
-AT = "write a server as --server ADDRESS"
-CAPITALS = "write a type as -t TYPE, and a host of this name with a dot at its end"
-FOR_DIG: List[Tuple[List[str], str, str]] = [
-    (["@127.0.0.1", "a.test."], "@127.0.0.1", AT),
-    (["a.test.", "@::1"], "@::1", AT),
-    (["a.test.", "A"], "A", CAPITALS),
-    (["MX", "a.test."], "MX", CAPITALS),
-    (["a.test.", "TYPE16", "-x"], "TYPE16", CAPITALS),
-]
-APPEND = "the form is 'append NAME TTL TYPE DATA'"
-SWAP = "the form is 'swap NAME TTL TYPE DATA -> DATA'"
-ACTIONS = "is none of the actions create, append, swap, delete-record, delete-set and delete-name"
-# Texts that are not updates of the zone `t.`, and what is said of them.
-NO_UPDATES: List[Tuple[str, str]] = [
-    ("", "it has no words"),
-    (" ", "it has no words"),
-    ("add a 60 A 10.0.0.1", f"'add' {ACTIONS}"),
-    ("Append a 60 A 10.0.0.1", f"'Append' {ACTIONS}"),
-    ("append", f"NAME is missing; {APPEND}"),
-    ("append a", f"TTL is missing; {APPEND}"),
-    ("append a 60", f"TYPE is missing; {APPEND}"),
-    ("append a 60 A", f"DATA is missing; {APPEND}"),
-    ("append a A 10.0.0.1", f"TTL is missing before 'A'; {APPEND}"),
-    ("append a 1h A 10.0.0.1", "'1h' is not a TTL, a number of seconds up to 4294967295"),
-    ("append a 4294967296 A 10.0.0.1", "'4294967296' is not a TTL, a number of seconds up to 4294967295"),
-    ("append a 60 NOTHING x", "'NOTHING' is not a type"),
-    ("append a 60 A 10.0.0.256", "'10.0.0.256' is not data of the type A"),
-    ("append a 60 MX 10 b c", "'10 b c' is not data of the type MX"),
-    ("append a..b 60 A 10.0.0.1", "'a..b' is not a domain name"),
-    ("append @ 60 A 10.0.0.1", "'@' is not a domain name; that of the zone is 't.'"),
-    ("append a.u. 60 A 10.0.0.1", "'a.u.' is not in the zone 't.'"),
-    ("create a 60", "TYPE is missing; the form is 'create NAME TTL TYPE DATA'"),
-    ("swap a 60 A", f"DATA is missing; {SWAP}"),
-    ("swap a 60 A 10.0.0.1", f"-> is missing; {SWAP}"),
-    ("swap a 60 A -> 10.0.0.1", f"DATA is missing; {SWAP}"),
-    ("swap a 60 A 10.0.0.1 ->", f"DATA is missing; {SWAP}"),
-    ("swap a 60 A one -> 10.0.0.1", "'one' is not data of the type A"),
-    ("swap a 60 A 10.0.0.1 -> other", "'other' is not data of the type A"),
-    ("delete-record a", "TYPE is missing; the form is 'delete-record NAME TYPE DATA'"),
-    ("delete-record a 60 A 10.0.0.1", "'60' is not a type"),
-    ("delete-set u. A", "'u.' is not in the zone 't.'"),
-    ("delete-set a", "TYPE is missing; the form is 'delete-set NAME TYPE'"),
-    ("delete-set a OPT", "no update deletes records of this type"),
-    ("delete-name a A", "'A' is a word too many; the form is 'delete-name NAME'"),
-    ('append a 60 TXT "open', "a quotation mark is not closed, or a backslash is at the end"),
-    ("append a 60 TXT end\\", "a quotation mark is not closed, or a backslash is at the end"),
-    ("append a 60 A 10.0.0.1 ; r0", "a semicolon is neither quoted nor escaped"),
-    ("append a 60 A 10.0.0.1;", "a semicolon is neither quoted nor escaped"),
-]
 
 
 def try_arguments(report: Report, given: Given) -> None:
@@ -104,14 +54,6 @@ def try_arguments(report: Report, given: Given) -> None:
             run = resolver.run("--update", "append a 60 A 10.0.0.1", "--zone", "t.", *words)
             said = run.errors.startswith("error: the argument '--") and "cannot be used with '--" in run.errors.splitlines()[0]
             report.check(f"--update and {words}: {run.errors!r}", (2, "", True), (run.status, run.output, said))
-        for words, name, reason in FOR_DIG:
-            run = resolver.run(*words)
-            said = f"lookup: invalid value '{name}' for 'NAME': {reason}\n"
-            report.check(f"{words}: what is said", (2, "", said), (run.status, run.output, run.errors))
-        for text, reason in NO_UPDATES:
-            run = resolver.run("--update", text, "--zone", "t")
-            said = f"lookup: invalid value '{text}' for '--update': {reason}\n"
-            report.check(f"--update {text!r}: what is said", (2, "", said), run[:3])
         run = resolver.run("a.test.", "--resolv-conf", "/nonexistent/resolv.conf")
         report.check("a missing resolv.conf", (2, True), (run.status, bool(run.errors)))
 

@@ -1,5 +1,6 @@
 """Lookups and updates of the program `lookup`, at a server that replies as a row says."""
 import contextlib
+import re
 import shlex
 import subprocess
 import tempfile
@@ -18,6 +19,8 @@ CHANGES = {"wrong-id": b"\1\0\0", "wrong-opcode": b"\0\0\x20"}
 ID = "1234"
 # The status of a program whose arguments are wrong.
 WRONG_ARGUMENTS = 2
+# A line of the help that describes an argument.
+DESCRIPTION = re.compile(r" +(?:\[(?P<name>[A-Z]+)\]\.\.\.|(?:-\w, )?(?P<option>--[a-z-]+)(?: <[^ ]*>)?)  +(?P<text>.*)")
 
 
 class Program:
@@ -163,3 +166,30 @@ def update(program: Program, given: str) -> str:
     if done.returncode == WRONG_ARGUMENTS and not sent:
         return "none"
     return f"{', '.join(sent)}{'' if done.returncode == 0 else f' status {done.returncode}'}"
+
+
+def described(program: Program, given: str) -> str:
+    """`ARGUMENT`: what the help says of an argument."""
+    lines = (DESCRIPTION.fullmatch(it) for it in program.run(["--help"]).stdout.splitlines())
+    return "; ".join(it["text"] for it in lines if it and given in (it["name"], it["option"]))
+
+
+def refused(program: Program, given: str) -> str:
+    """`ARGUMENTS`: what is said of arguments that are refused."""
+    done = program.run(shlex.split(given))
+    if done.returncode != WRONG_ARGUMENTS or done.stdout:
+        return f"status {done.returncode}: {done.stdout}"
+    return done.stderr.rstrip("\n")
+
+
+def traced(program: Program, given: str) -> str:
+    """`ARGUMENTS || HOSTS || REPLIES`, as of `lookup`, but with `--tcp` over streams: what the trace and the program say on standard error,
+    without moments, with `SERVER` for the address of the server and `ID` for the id of a message.
+    """
+    words, hosts, replies = parts_of(given, 3)
+    listed = Listed(lambda request, text: [] if text == "quiet" else [reply_bytes(request, text)], listed_in(replies))
+    with Scripted(listed, "--tcp" in words.split()) as server:
+        seconds = SHORT_SECONDS if "quiet" in replies else SECONDS
+        done = program.ask(server, [*shlex.split(words), "--trace"], seconds, hosts=hosts_of(hosts))
+        text = done.stderr.replace(server.place, "SERVER")
+    return " / ".join(re.sub(r"^\d+ ms |(?<=\bid )\d+$", lambda it: "ID" if it.start() else "", line) for line in text.splitlines())

@@ -1,3 +1,5 @@
+mod ArgumentsLaws
+mod CommandLaws
 mod SessionLaws
 mod EndLaws
 mod GivenTextLaws

@@ -1,6 +1,9 @@
+pub mod Arguments
+pub mod Command
 pub mod Dig
 pub mod Ending
 pub mod Keys
 pub mod Session
 pub mod Settings
+pub mod Values
 pub mod answers

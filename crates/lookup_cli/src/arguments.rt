@@ -1,8 +1,18 @@
 //! The arguments of the program.
 
+ghost use Rattle.std.specs.Prelude.{◌≡◌, ◌==◌, IfErr, IfOk, Some, codes, length, map, option_map, string_bytes};
+ghost use Rattle.std.specs.List.{AllZip, list_any};
+ghost use Rattle.clap.specs.Words.{first_of};
+ghost use Rattle.lookup_cli.specs.Arguments.{AreArguments, AreItems, AreLists, ArePaths, IsItemFor};
+ghost use Rattle.lookup_cli.specs.Arguments.{IsItemRefusal, IsKey, IsOf, IsQuestion, IsRefusal, IsRefusalAmong};
+ghost use Rattle.lookup_cli.specs.Arguments.{IsRefusalOf, IsReversedIf, IsServerRefusal, IsTask, IsUpdate, IsUpdateRefusal};
+ghost use Rattle.lookup_cli.specs.Arguments.{found, found_in, is_given, is_input, texts_of};
+ghost use Rattle.lookup_cli.specs.Values.{IsNameRefusal, IsNotLookedUpRefusal, IsServer, SpellsName, strategy_of, timeout_of};
+
 use crate::answers::{Item, Question};
 use crate::command::command;
 use crate::ending::Ending;
+use crate::found::{is_given, number_in, text_in};
 use crate::values::{check_name, name_of, server_of, strategy_of, timeout_of, type_of};
 use clap::ArgMatches;
 use clap::error::ErrorKind;
@@ -85,7 +95,10 @@ pub struct KeyArguments {
 /// - [`Ending::InvalidValue`] if the value of an argument is none of its values;
 /// - [`Ending::ZoneWithoutUpdate`] if a name and the zone of an update are given, and no update;
 /// - [`Ending::Memory`] if memory is refused.
-pub fn read_arguments(alloc: Global, words: &[&str]) -> Result<Arguments, Ending> {
+pub fn read_arguments(alloc: Global, words: &[&str]) -> Result<Arguments, Ending>
+    ensures arguments { IfOk result (AreArguments (found_in (map (λ word. word.now) words.now))) }
+    ensures refused { IfErr result (IsRefusalOf (found_in (map (λ word. word.now) words.now))) }
+{
     let matches = match command(alloc)?.try_get_matches_from(words) {
         Ok(matches) => matches,
         Err(error) if error.kind() == ErrorKind::OutOfMemory => {
@@ -119,7 +132,10 @@ struct Task {
 }
 
 /// Returns the arguments that clap found.
-fn arguments_of(alloc: Global, matches: &ArgMatches<'_>) -> Result<Arguments, Ending> {
+fn arguments_of(alloc: Global, matches: &ArgMatches<'_>) -> Result<Arguments, Ending>
+    ensures arguments { IfOk result (AreArguments (found matches.now)) }
+    ensures refused { IfErr result (IsRefusal (found matches.now)) }
+{
     let question = question_in(alloc, matches)?;
     let strategy = strategy_in(alloc, matches)?;
     let timeout = timeout_in(alloc, matches)?;
@@ -130,7 +146,7 @@ fn arguments_of(alloc: Global, matches: &ArgMatches<'_>) -> Result<Arguments, En
         items,
         reads_input: has_input(matches),
         question,
-        reverse: flag_in(matches, "reverse"),
+        reverse: is_given(matches, "reverse"),
         servers: lists.servers,
         resolv_conf: paths.resolv_conf,
         hosts: paths.hosts,
@@ -140,17 +156,20 @@ fn arguments_of(alloc: Global, matches: &ArgMatches<'_>) -> Result<Arguments, En
         timeout,
         attempts: number_in(matches, "attempts"),
         update,
-        tcp: flag_in(matches, "tcp"),
-        rotate: flag_in(matches, "rotate"),
-        edns: !flag_in(matches, "no-edns"),
-        cache: !flag_in(matches, "no-cache"),
-        json: flag_in(matches, "json"),
-        trace: flag_in(matches, "trace"),
+        tcp: is_given(matches, "tcp"),
+        rotate: is_given(matches, "rotate"),
+        edns: !is_given(matches, "no-edns"),
+        cache: !is_given(matches, "no-cache"),
+        json: is_given(matches, "json"),
+        trace: is_given(matches, "trace"),
     })
 }
 
 /// Returns what is to be done.
-fn task_in(alloc: Global, matches: &ArgMatches<'_>, question: Question) -> Result<Task, Ending> {
+fn task_in(alloc: Global, matches: &ArgMatches<'_>, question: Question) -> Result<Task, Ending>
+    ensures task { IfOk result (IsTask (found matches.now) question) }
+    ensures refused { IfErr result (IsRefusal (found matches.now)) }
+{
     let items = items_in(alloc, matches, question)?;
     Ok(Task {
         items,
@@ -159,13 +178,20 @@ fn task_in(alloc: Global, matches: &ArgMatches<'_>, question: Question) -> Resul
 }
 
 /// Returns the lists and the paths.
-fn sources_in(alloc: Global, matches: &ArgMatches<'_>) -> Result<(Lists, Paths), Ending> {
+fn sources_in(alloc: Global, matches: &ArgMatches<'_>) -> Result<(Lists, Paths), Ending>
+    ensures lists { IfOk result (λ sources. AreLists (found matches.now) sources.0) }
+    ensures paths { IfOk result (λ sources. ArePaths (found matches.now) sources.1) }
+    ensures refused { IfErr result (IsRefusal (found matches.now)) }
+{
     let lists = lists_in(alloc, matches)?;
     Ok((lists, paths_in(alloc, matches)?))
 }
 
 /// Returns the lists.
-fn lists_in(alloc: Global, matches: &ArgMatches<'_>) -> Result<Lists, Ending> {
+fn lists_in(alloc: Global, matches: &ArgMatches<'_>) -> Result<Lists, Ending>
+    ensures lists { IfOk result (AreLists (found matches.now)) }
+    ensures refused { IfErr result (IsRefusal (found matches.now)) }
+{
     let servers = servers_in(alloc, matches)?;
     Ok(Lists {
         servers,
@@ -174,17 +200,22 @@ fn lists_in(alloc: Global, matches: &ArgMatches<'_>) -> Result<Lists, Ending> {
 }
 
 /// Returns the paths.
-fn paths_in(alloc: Global, matches: &ArgMatches<'_>) -> Result<Paths, AllocError> {
-    let resolv_conf = text_in(alloc, matches, "resolv-conf")?;
+fn paths_in(alloc: Global, matches: &ArgMatches<'_>) -> Result<Paths, AllocError>
+    ensures { IfOk result (ArePaths (found matches.now)) }
+{
+    let resolv_conf = path_in(alloc, matches, "resolv-conf")?;
     Ok(Paths {
         resolv_conf,
-        hosts: text_in(alloc, matches, "hosts")?,
+        hosts: path_in(alloc, matches, "hosts")?,
     })
 }
 
 /// Returns what is asked about a name without a type.
-fn question_in(alloc: Global, matches: &ArgMatches<'_>) -> Result<Question, Ending> {
-    match matches.get_str("type") {
+fn question_in(alloc: Global, matches: &ArgMatches<'_>) -> Result<Question, Ending>
+    ensures question { IfOk result (IsQuestion (first_of (codes "type") (found matches.now))) }
+    ensures refused { IfErr result (IsRefusal (found matches.now)) }
+{
+    match text_in(matches, "type") {
         Some(text) => Ok(Question::Records(type_of(alloc, text)?)),
         None => Ok(Question::Addresses),
     }
@@ -195,22 +226,58 @@ fn items_in(
     alloc: Global,
     matches: &ArgMatches<'_>,
     question: Question,
-) -> Result<Vec<Item>, Ending> {
+) -> Result<Vec<Item>, Ending>
+    ensures items { IfOk result (λ items.
+        AreItems question (is_given (codes "reverse") (found matches.now))
+        (texts_of (codes "NAME") (found matches.now)) items.items) }
+    ensures refused { IfErr result (IsRefusal (found matches.now)) }
+{
+    let reverse = is_given(matches, "reverse");
+    let texts = matches.get_strs("NAME").unwrap_or(&[]);
+    items_of(alloc, texts, question, reverse)
+}
+
+/// Returns what is looked up for the texts that do not stand for the names of standard input.
+fn items_of(
+    alloc: Global,
+    texts: &[&str],
+    question: Question,
+    reverse: bool,
+) -> Result<Vec<Item>, Ending>
+    ensures items { IfOk result (λ items.
+        AreItems question reverse (map (λ text. text.now) texts.now) items.items) }
+    ensures refused { IfErr result (IsRefusalAmong (IsItemRefusal (length texts.now == 1))
+        (map (λ text. text.now) texts.now)) }
+{
     let mut items = Vec::new(alloc);
-    let names = matches.get_strs("NAME").unwrap_or(&[]);
-    for text in names {
-        if *text != INPUT {
-            check_name(alloc, text, names.len() == 1)?;
-            let name = String::from_str(alloc, text)?;
-            let item = Item::new(alloc, name, question);
-            items.push(reversed_if(alloc, flag_in(matches, "reverse"), item)?)?;
+    for text in texts {
+        if !is_input(text) {
+            items.push(item_of(alloc, text, texts.len() == 1, question, reverse)?)?;
         }
     }
     Ok(items)
 }
 
+/// Returns what is looked up for a text, which is alone or one of several.
+fn item_of(
+    alloc: Global,
+    text: &str,
+    is_alone: bool,
+    question: Question,
+    reverse: bool,
+) -> Result<Item, Ending>
+    ensures item { IfOk result (IsItemFor question reverse is_alone text.now) }
+    ensures refused { IfErr result (IsNotLookedUpRefusal is_alone text.now) }
+{
+    check_name(alloc, text, is_alone)?;
+    let name = String::from_str(alloc, text)?;
+    Ok(reversed_if(alloc, reverse, Item::new(alloc, name, question))?)
+}
+
 /// Returns an item, by the reverse name of the address that its name is if that is asked for.
-fn reversed_if(alloc: Global, is_asked: bool, item: Item) -> Result<Item, AllocError> {
+fn reversed_if(alloc: Global, is_asked: bool, item: Item) -> Result<Item, AllocError>
+    ensures { IfOk result (IsReversedIf is_asked item) }
+{
     if is_asked {
         item.reversed(alloc)
     } else {
@@ -219,53 +286,103 @@ fn reversed_if(alloc: Global, is_asked: bool, item: Item) -> Result<Item, AllocE
 }
 
 /// Returns `true` if the names of standard input are looked up.
-fn has_input(matches: &ArgMatches<'_>) -> bool {
-    match matches.get_strs("NAME") {
-        Some(names) => names.iter().any(|text| *text == INPUT),
-        None => false,
-    }
+fn has_input(matches: &ArgMatches<'_>) -> bool
+    ensures { result ≡ list_any is_input (texts_of (codes "NAME") (found matches.now)) }
+{
+    has_input_among(matches.get_strs("NAME").unwrap_or(&[]))
+}
+
+/// Returns `true` if one of texts stands for the names of standard input.
+fn has_input_among(texts: &[&str]) -> bool
+    ensures { result ≡ list_any (λ text. is_input text.now) texts.now }
+{
+    texts.iter().any(|text| is_input(text))
+}
+
+/// Returns `true` if a text stands for the names of standard input.
+fn is_input(text: &str) -> bool
+    ensures { result ≡ is_input text.now }
+{
+    text == INPUT
 }
 
 /// Returns the addresses of the servers.
-fn servers_in(alloc: Global, matches: &ArgMatches<'_>) -> Result<Vec<SocketAddr>, Ending> {
+fn servers_in(alloc: Global, matches: &ArgMatches<'_>) -> Result<Vec<SocketAddr>, Ending>
+    ensures servers { IfOk result (λ servers.
+        AllZip IsServer (texts_of (codes "server") (found matches.now)) servers.items) }
+    ensures refused { IfErr result (IsRefusal (found matches.now)) }
+{
+    servers_of(alloc, matches.get_strs("server").unwrap_or(&[]))
+}
+
+/// Returns the addresses of the servers of texts.
+fn servers_of(alloc: Global, texts: &[&str]) -> Result<Vec<SocketAddr>, Ending>
+    ensures servers { IfOk result (λ servers.
+        AllZip IsServer (map (λ text. text.now) texts.now) servers.items) }
+    ensures refused { IfErr result (IsRefusalAmong IsServerRefusal
+        (map (λ text. text.now) texts.now)) }
+{
     let mut servers = Vec::new(alloc);
-    for text in matches.get_strs("server").unwrap_or(&[]) {
+    for text in texts {
         servers.push(server_of(alloc, text)?)?;
     }
     Ok(servers)
 }
 
 /// Returns the names that complete relative names.
-fn search_in(alloc: Global, matches: &ArgMatches<'_>) -> Result<Vec<Name>, Ending> {
+fn search_in(alloc: Global, matches: &ArgMatches<'_>) -> Result<Vec<Name>, Ending>
+    ensures search { IfOk result (λ names.
+        AllZip SpellsName (texts_of (codes "search") (found matches.now)) names.items) }
+    ensures refused { IfErr result (IsRefusal (found matches.now)) }
+{
+    names_of(alloc, matches.get_strs("search").unwrap_or(&[]))
+}
+
+/// Returns the names of the texts of a search list.
+fn names_of(alloc: Global, texts: &[&str]) -> Result<Vec<Name>, Ending>
+    ensures names { IfOk result (λ names.
+        AllZip SpellsName (map (λ text. text.now) texts.now) names.items) }
+    ensures refused { IfErr result (IsRefusalAmong (IsNameRefusal (codes "--search"))
+        (map (λ text. text.now) texts.now)) }
+{
     let mut names = Vec::new(alloc);
-    for text in matches.get_strs("search").unwrap_or(&[]) {
+    for text in texts {
         names.push(name_of(alloc, "--search", text)?)?;
     }
     Ok(names)
 }
 
 /// Returns the types of addresses.
-fn strategy_in(
-    alloc: Global,
-    matches: &ArgMatches<'_>,
-) -> Result<Option<LookupIpStrategy>, Ending> {
-    match matches.get_str("strategy") {
+fn strategy_in(alloc: Global, matches: &ArgMatches<'_>) -> Result<Option<LookupIpStrategy>, Ending>
+    ensures strategy { IfOk result (IsOf (λ text strategy. strategy_of text ≡ Some strategy)
+        (first_of (codes "strategy") (found matches.now))) }
+    ensures refused { IfErr result (IsRefusal (found matches.now)) }
+{
+    match text_in(matches, "strategy") {
         Some(text) => Ok(Some(strategy_of(alloc, text)?)),
         None => Ok(None),
     }
 }
 
 /// Returns how long to wait for a reply, in milliseconds.
-fn timeout_in(alloc: Global, matches: &ArgMatches<'_>) -> Result<Option<u64>, Ending> {
-    match matches.get_str("timeout") {
+fn timeout_in(alloc: Global, matches: &ArgMatches<'_>) -> Result<Option<u64>, Ending>
+    ensures timeout { IfOk result (IsOf (λ text timeout. timeout_of text ≡ Some timeout)
+        (first_of (codes "timeout") (found matches.now))) }
+    ensures refused { IfErr result (IsRefusal (found matches.now)) }
+{
+    match text_in(matches, "timeout") {
         Some(text) => Ok(Some(timeout_of(alloc, text)?)),
         None => Ok(None),
     }
 }
 
 /// Returns the update. Clap has found that it has a zone, but beside a name it lets a zone pass without an update.
-fn update_in(alloc: Global, matches: &ArgMatches<'_>) -> Result<Option<UpdateArguments>, Ending> {
-    match (matches.get_str("update"), matches.get_str("zone")) {
+fn update_in(alloc: Global, matches: &ArgMatches<'_>) -> Result<Option<UpdateArguments>, Ending>
+    ensures update { IfOk result (IsOf (IsUpdate (found matches.now))
+        (first_of (codes "zone") (found matches.now))) }
+    ensures refused { IfErr result (IsRefusal (found matches.now)) }
+{
+    match (text_in(matches, "update"), text_in(matches, "zone")) {
         (Some(words), Some(zone)) => Ok(Some(update_of(alloc, matches, words, zone)?)),
         (None, Some(_)) => Err(Ending::ZoneWithoutUpdate),
         (_, None) => Ok(None),
@@ -278,7 +395,13 @@ fn update_of(
     matches: &ArgMatches<'_>,
     words: &str,
     zone: &str,
-) -> Result<UpdateArguments, Ending> {
+) -> Result<UpdateArguments, Ending>
+    ensures words { IfOk result (λ update. string_bytes update.words ≡ words.now) }
+    ensures zone { IfOk result (λ update. SpellsName zone.now update.zone) }
+    ensures key { IfOk result (λ update. IsOf (IsKey (found matches.now))
+        (first_of (codes "key") (found matches.now)) update.key) }
+    ensures refused { IfErr result (IsUpdateRefusal (found matches.now) zone.now) }
+{
     let key = key_in(alloc, matches)?;
     let words = String::from_str(alloc, words)?;
     Ok(UpdateArguments {
@@ -289,8 +412,12 @@ fn update_of(
 }
 
 /// Returns the key.
-fn key_in(alloc: Global, matches: &ArgMatches<'_>) -> Result<Option<KeyArguments>, Ending> {
-    match matches.get_str("key") {
+fn key_in(alloc: Global, matches: &ArgMatches<'_>) -> Result<Option<KeyArguments>, Ending>
+    ensures key { IfOk result (IsOf (IsKey (found matches.now))
+        (first_of (codes "key") (found matches.now))) }
+    ensures refused { IfErr result (IsRefusal (found matches.now)) }
+{
+    match text_in(matches, "key") {
         Some(path) => Ok(Some(KeyArguments {
             name: key_name_in(alloc, matches)?,
             path: String::from_str(alloc, path)?,
@@ -300,31 +427,28 @@ fn key_in(alloc: Global, matches: &ArgMatches<'_>) -> Result<Option<KeyArguments
 }
 
 /// Returns the name of the key.
-fn key_name_in(alloc: Global, matches: &ArgMatches<'_>) -> Result<Option<Name>, Ending> {
-    match matches.get_str("key-name") {
+fn key_name_in(alloc: Global, matches: &ArgMatches<'_>) -> Result<Option<Name>, Ending>
+    ensures name { IfOk result (IsOf SpellsName
+        (first_of (codes "key-name") (found matches.now))) }
+    ensures refused { IfErr result (IsRefusal (found matches.now)) }
+{
+    match text_in(matches, "key-name") {
         Some(text) => Ok(Some(name_of(alloc, "--key-name", text)?)),
         None => Ok(None),
     }
 }
 
-/// Returns the value of an option, if it has one.
-fn text_in(
+/// Returns the path that is the value of an option, if it has one.
+fn path_in(
     alloc: Global,
     matches: &ArgMatches<'_>,
     name: &str,
-) -> Result<Option<String>, AllocError> {
-    match matches.get_str(name) {
+) -> Result<Option<String>, AllocError>
+    ensures { IfOk result (λ path.
+        option_map string_bytes path ≡ first_of name.now (found matches.now)) }
+{
+    match text_in(matches, name) {
         Some(text) => Ok(Some(String::from_str(alloc, text)?)),
         None => Ok(None),
     }
-}
-
-/// Returns the number of an option, if it has one. Clap has found that it is one.
-fn number_in(matches: &ArgMatches<'_>, name: &str) -> Option<usize> {
-    matches.get_one::<usize>(name)
-}
-
-/// Returns `true` if a flag is given.
-fn flag_in(matches: &ArgMatches<'_>, name: &str) -> bool {
-    matches.get_str(name) == Some("true")
 }

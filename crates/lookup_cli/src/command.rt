@@ -1,5 +1,12 @@
 //! The command of the arguments, for clap.
 
+ghost use Rattle.std.specs.Prelude.{◌≡◌, IfOk, codes};
+ghost use Rattle.clap.specs.Words.{app_of};
+ghost use Rattle.lookup_cli.specs.Command.{IsArg, bare_app, between, bound, flag, flag_rules};
+ghost use Rattle.lookup_cli.specs.Command.{item_rules, key_rules, list, lookup_app, names_rule, number};
+ghost use Rattle.lookup_cli.specs.Command.{option, source_rules, time_rules, update_rules};
+ghost use Rattle.lookup_cli.specs.Command.{with_rules, with_short};
+
 use clap::{Arg, ArgAction, Command, value_parser};
 use std::alloc::{AllocError, Global};
 
@@ -7,19 +14,37 @@ use std::alloc::{AllocError, Global};
 const VERSION: &str = "0.1.0";
 
 /// Returns the program's command.
-pub(crate) fn command<'a>(alloc: Global) -> Result<Command<'a>, AllocError> {
-    let command = Command::new(alloc, "lookup")
-        .version(VERSION)
-        .about("Looks up names at name servers")
-        .arg(names(alloc)?)?
-        .arg(type_option(alloc)?)?
-        .arg(reverse_flag(alloc)?)?;
+pub(crate) fn command<'a>(alloc: Global) -> Result<Command<'a>, AllocError>
+    ensures { IfOk result (λ command. app_of command ≡ lookup_app) }
+{
+    let command = with_items(alloc, bare_command(alloc))?;
     let command = with_time(alloc, with_sources(alloc, command)?)?;
     with_flags(alloc, with_key(alloc, with_update(alloc, command)?)?)
 }
 
+/// Returns the command without arguments.
+fn bare_command<'a>(alloc: Global) -> Command<'a>
+    ensures { app_of result ≡ bare_app }
+{
+    Command::new(alloc, "lookup")
+        .version(VERSION)
+        .about("Looks up names at name servers")
+}
+
+/// Adds the options of what is looked up.
+fn with_items<'a>(alloc: Global, command: Command<'a>) -> Result<Command<'a>, AllocError>
+    ensures { IfOk result (λ other. app_of other ≡ with_rules (app_of command.entry) item_rules) }
+{
+    command
+        .arg(names(alloc)?)?
+        .arg(type_option(alloc)?)?
+        .arg(reverse_flag(alloc)?)
+}
+
 /// Returns the argument of the names.
-fn names<'a>(alloc: Global) -> Result<Arg<'a>, AllocError> {
+fn names<'a>(alloc: Global) -> Result<Arg<'a>, AllocError>
+    ensures { IfOk result (IsArg names_rule) }
+{
     Arg::new(alloc, "NAME")
         .value_name("NAME")
         .help(
@@ -32,7 +57,9 @@ fn names<'a>(alloc: Global) -> Result<Arg<'a>, AllocError> {
 }
 
 /// Returns the option of the type.
-fn type_option<'a>(alloc: Global) -> Result<Arg<'a>, AllocError> {
+fn type_option<'a>(alloc: Global) -> Result<Arg<'a>, AllocError>
+    ensures { IfOk result (IsArg (bound (with_short 116 (option (codes "type"))))) }
+{
     option(
         alloc,
         "type",
@@ -44,7 +71,9 @@ fn type_option<'a>(alloc: Global) -> Result<Arg<'a>, AllocError> {
 }
 
 /// Returns the flag of reverse names.
-fn reverse_flag<'a>(alloc: Global) -> Result<Arg<'a>, AllocError> {
+fn reverse_flag<'a>(alloc: Global) -> Result<Arg<'a>, AllocError>
+    ensures { IfOk result (IsArg (bound (with_short 120 (flag (codes "reverse"))))) }
+{
     flag(
         alloc,
         "reverse",
@@ -55,7 +84,9 @@ fn reverse_flag<'a>(alloc: Global) -> Result<Arg<'a>, AllocError> {
 }
 
 /// Adds the options of servers and of what completes names.
-fn with_sources<'a>(alloc: Global, command: Command<'a>) -> Result<Command<'a>, AllocError> {
+fn with_sources<'a>(alloc: Global, command: Command<'a>) -> Result<Command<'a>, AllocError>
+    ensures { IfOk result (λ other. app_of other ≡ with_rules (app_of command.entry) source_rules) }
+{
     command
         .arg(list(
             alloc,
@@ -80,7 +111,9 @@ fn with_sources<'a>(alloc: Global, command: Command<'a>) -> Result<Command<'a>, 
 }
 
 /// Returns the option of the names that complete relative ones.
-fn search_option<'a>(alloc: Global) -> Result<Arg<'a>, AllocError> {
+fn search_option<'a>(alloc: Global) -> Result<Arg<'a>, AllocError>
+    ensures { IfOk result (IsArg (bound (list (codes "search")))) }
+{
     list(
         alloc,
         "search",
@@ -91,7 +124,9 @@ fn search_option<'a>(alloc: Global) -> Result<Arg<'a>, AllocError> {
 }
 
 /// Returns the option of the number of dots.
-fn ndots_option<'a>(alloc: Global) -> Result<Arg<'a>, AllocError> {
+fn ndots_option<'a>(alloc: Global) -> Result<Arg<'a>, AllocError>
+    ensures { IfOk result (IsArg (bound (number (codes "ndots") (between 0 15)))) }
+{
     option(
         alloc,
         "ndots",
@@ -103,7 +138,9 @@ fn ndots_option<'a>(alloc: Global) -> Result<Arg<'a>, AllocError> {
 }
 
 /// Adds the options of how servers are asked.
-fn with_time<'a>(alloc: Global, command: Command<'a>) -> Result<Command<'a>, AllocError> {
+fn with_time<'a>(alloc: Global, command: Command<'a>) -> Result<Command<'a>, AllocError>
+    ensures { IfOk result (λ other. app_of other ≡ with_rules (app_of command.entry) time_rules) }
+{
     command
         .arg(strategy_option(alloc)?)?
         .arg(option(
@@ -122,7 +159,9 @@ fn with_time<'a>(alloc: Global, command: Command<'a>) -> Result<Command<'a>, All
 }
 
 /// Returns the option of the types of addresses.
-fn strategy_option<'a>(alloc: Global) -> Result<Arg<'a>, AllocError> {
+fn strategy_option<'a>(alloc: Global) -> Result<Arg<'a>, AllocError>
+    ensures { IfOk result (IsArg (bound (option (codes "strategy")))) }
+{
     option(
         alloc,
         "strategy",
@@ -133,7 +172,9 @@ fn strategy_option<'a>(alloc: Global) -> Result<Arg<'a>, AllocError> {
 }
 
 /// Adds the options of updates.
-fn with_update<'a>(alloc: Global, command: Command<'a>) -> Result<Command<'a>, AllocError> {
+fn with_update<'a>(alloc: Global, command: Command<'a>) -> Result<Command<'a>, AllocError>
+    ensures { IfOk result (λ other. app_of other ≡ with_rules (app_of command.entry) update_rules) }
+{
     let update = option(
         alloc,
         "update",
@@ -147,7 +188,9 @@ fn with_update<'a>(alloc: Global, command: Command<'a>) -> Result<Command<'a>, A
 }
 
 /// Adds the options of the key that signs an update.
-fn with_key<'a>(alloc: Global, command: Command<'a>) -> Result<Command<'a>, AllocError> {
+fn with_key<'a>(alloc: Global, command: Command<'a>) -> Result<Command<'a>, AllocError>
+    ensures { IfOk result (λ other. app_of other ≡ with_rules (app_of command.entry) key_rules) }
+{
     let key = option(
         alloc,
         "key",
@@ -166,7 +209,9 @@ fn with_key<'a>(alloc: Global, command: Command<'a>) -> Result<Command<'a>, Allo
 }
 
 /// Adds the options without a value.
-fn with_flags<'a>(alloc: Global, command: Command<'a>) -> Result<Command<'a>, AllocError> {
+fn with_flags<'a>(alloc: Global, command: Command<'a>) -> Result<Command<'a>, AllocError>
+    ensures { IfOk result (λ other. app_of other ≡ with_rules (app_of command.entry) flag_rules) }
+{
     command
         .arg(flag(alloc, "tcp", "Ask over TCP alone"))?
         .arg(flag(alloc, "rotate", "Ask the servers in turn"))?
@@ -185,7 +230,9 @@ fn with_flags<'a>(alloc: Global, command: Command<'a>) -> Result<Command<'a>, Al
 }
 
 /// Returns an option that takes one value.
-fn option<'a>(alloc: Global, name: &'a str, value_name: &'a str, help: &'a str) -> Arg<'a> {
+fn option<'a>(alloc: Global, name: &'a str, value_name: &'a str, help: &'a str) -> Arg<'a>
+    ensures { IsArg (option name.entry.now) result }
+{
     Arg::new(alloc, name)
         .long(name)
         .value_name(value_name)
@@ -194,12 +241,16 @@ fn option<'a>(alloc: Global, name: &'a str, value_name: &'a str, help: &'a str) 
 }
 
 /// Returns an option that may be given several times.
-fn list<'a>(alloc: Global, name: &'a str, value_name: &'a str, help: &'a str) -> Arg<'a> {
+fn list<'a>(alloc: Global, name: &'a str, value_name: &'a str, help: &'a str) -> Arg<'a>
+    ensures { IsArg (list name.entry.now) result }
+{
     option(alloc, name, value_name, help).action(ArgAction::Append)
 }
 
 /// Returns an option without a value.
-fn flag<'a>(alloc: Global, name: &'a str, help: &'a str) -> Arg<'a> {
+fn flag<'a>(alloc: Global, name: &'a str, help: &'a str) -> Arg<'a>
+    ensures { IsArg (flag name.entry.now) result }
+{
     Arg::new(alloc, name)
         .long(name)
         .action(ArgAction::SetTrue)

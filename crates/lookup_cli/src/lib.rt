@@ -1,7 +1,7 @@
 //! What the program `lookup` decides: its arguments, its settings, and its lookups and updates.
 //!
-//! - `arguments`: the arguments; `command`: their command for clap; `values`: the values of options; `dig`: words that are written as for
-//!   that program
+//! - `arguments`: the arguments; `command`: their command for clap; `found`: what clap finds of each; `values`: the values of options;
+//!   `dig`: words that are written as for that program
 //! - `settings`: the configuration and the options of the resolver
 //! - `session`: lookups over a resolver; `signed_session`: signed updates; `keys`: the key that signs them
 //! - `ending`: why the program ends early
@@ -15,6 +15,7 @@ mod arguments;
 mod command;
 mod dig;
 mod ending;
+mod found;
 mod keys;
 mod session;
 mod settings;

@@ -1,1 +1,2 @@
 pub mod LoggedLaws
+pub mod DurableLaws

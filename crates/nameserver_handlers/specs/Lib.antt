@@ -1,2 +1,3 @@
 pub mod Transferring
 pub mod Logged
+pub mod Durable
