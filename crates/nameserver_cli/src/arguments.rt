@@ -1,5 +1,13 @@
 //! The arguments of the program.
 
+ghost use Rattle.std.specs.Prelude.{◌≡◌, ◌≤◌, IfOk, IfErr, OnOk, true, is_some, map, option_map, codes, string_bytes, Ok};
+ghost use Rattle.std.specs.List.{AllZip, list_any};
+ghost use Rattle.clap.specs.Matches.{first_value, found_of};
+ghost use Rattle.dns_server.specs.AddressList.{ReadsPrefix};
+ghost use Rattle.nameserver_cli.specs.Addresses.{AddsPrefixes, AreListened, AreUpdaters, IsAddress, IsAddressRefusal, IsAddressesRefusal, IsLoopbackAnd, IsPrefixRefusal, IsPrefixesRefusal, unspecified_reason};
+ghost use Rattle.nameserver_cli.specs.Arguments.{AreArguments, IsDifferences, IsDifferencesRefusal, IsLimit, IsLimitRefusal, IsOrigin, IsOriginRefusal, answering_of, is_script_option, kept_differences, loses_serials, mode_of, offers_transfers, reach_of, serials_of, takes_updates, until_of};
+ghost use Rattle.nameserver_cli.specs.Options.{is_given, values_of};
+
 use crate::durable_arguments::{DurableArguments, durable_in, with_durable_options};
 use crate::ending::Ending;
 use clap::error::ErrorKind;
@@ -113,7 +121,9 @@ impl Drop for Arguments {
 
 impl Arguments {
     /// Returns `true` if transfers are offered: not if each question is answered by its zone alone.
-    pub fn offers_transfers(&self) -> bool {
+    pub fn offers_transfers(&self) -> bool
+        ensures { result ≡ offers_transfers self.now.answering }
+    {
         match self.answering {
             Answering::Plain => false,
             Answering::Whole(_, _) => true,
@@ -121,17 +131,23 @@ impl Arguments {
     }
 
     /// Returns `true` if secondaries are notified of updates that a restart loses: there is no journal.
-    pub fn loses_serials(&self) -> bool {
+    pub fn loses_serials(&self) -> bool
+        ensures { result ≡ loses_serials self.now }
+    {
         !self.notify.is_empty() && self.durable.journal.is_none() && self.takes_updates()
     }
 
     /// Returns `true` if somebody may update the zones: whoever may without a key may from the local host.
-    fn takes_updates(&self) -> bool {
+    fn takes_updates(&self) -> bool
+        ensures { result ≡ takes_updates self.now }
+    {
         !self.durable.keys.is_empty() || self.updaters.contains(IpAddr::V4(Ipv4Addr::LOCALHOST))
     }
 
     /// Returns how many records of differences are kept of each zone, at most: none if transfers are not offered.
-    pub fn kept_differences(&self) -> usize {
+    pub fn kept_differences(&self) -> usize
+        ensures { result ≡ kept_differences self.now }
+    {
         if self.offers_transfers() {
             self.differences
         } else {
@@ -140,7 +156,10 @@ impl Arguments {
     }
 
     /// Returns the addresses from which updates are taken, and those to which zones are transferred.
-    pub fn into_lists(self) -> (AddressList, AddressList) {
+    pub fn into_lists(self) -> (AddressList, AddressList)
+        ensures updaters { result.0 ≡ self.updaters }
+        ensures secondaries { result.1 ≡ self.secondaries }
+    {
         let Arguments {
             files,
             addresses,
@@ -186,12 +205,23 @@ pub fn read_arguments(alloc: Global, words: &[&str]) -> Result<Arguments, Ending
 }
 
 /// Returns `true` if the words name a script, which may state the zone files.
-fn names_script(words: &[&str]) -> bool {
-    words.iter().any(|word| *word == "--replay" || word.starts_with("--replay="))
+fn names_script(words: &[&str]) -> bool
+    ensures { result ≡ list_any (λ word. is_script_option word.now) words.now }
+{
+    words.iter().any(|word| is_script_option(word))
+}
+
+/// Returns `true` if a word is the option of a script, with its value or before it.
+fn is_script_option(word: &str) -> bool
+    ensures { result ≡ is_script_option word.now }
+{
+    word == "--replay" || word.as_bytes().starts_with(b"--replay=")
 }
 
 /// Returns what the words stand for.
-fn arguments_of(alloc: Global, matches: &ArgMatches<'_>) -> Result<Arguments, Ending> {
+fn arguments_of(alloc: Global, matches: &ArgMatches<'_>) -> Result<Arguments, Ending>
+    ensures { IfOk result (AreArguments (found_of matches.now)) }
+{
     let limit = limit_in(alloc, matches)?;
     let files = texts_in(alloc, matches, "FILE")?;
     let addresses = addresses_in(alloc, matches)?;
@@ -402,31 +432,56 @@ pub(crate) fn flag<'a>(alloc: Global, name: &'a str, help: &'a str) -> Arg<'a> {
         .help(help)
 }
 
+/// Returns `true` if an option without a value is given.
+pub(crate) fn is_given(matches: &ArgMatches<'_>, name: &str) -> bool
+    ensures { result ≡ is_given (found_of matches.now) name.now }
+{
+    match matches.get_str(name) {
+        Some(text) => text == "true",
+        None => false,
+    }
+}
+
 /// Returns the value of an option, if it has one.
 pub(crate) fn text_in(
     alloc: Global,
     matches: &ArgMatches<'_>,
     name: &str,
-) -> Result<Option<String>, AllocError> {
+) -> Result<Option<String>, AllocError>
+    ensures { IfOk result (λ text. option_map string_bytes text
+        ≡ first_value (found_of matches.now) name.now) }
+{
     match matches.get_str(name) {
         Some(text) => Ok(Some(String::from_str(alloc, text)?)),
         None => Ok(None),
     }
 }
 
-/// Returns the values of an argument.
+/// Returns copies of the values of an argument.
 pub(crate) fn texts_in(
     alloc: Global,
     matches: &ArgMatches<'_>,
     name: &str,
-) -> Result<Vec<String>, AllocError> {
-    let mut texts = Vec::new(alloc);
-    if let Some(values) = matches.get_strs(name) {
-        for text in values {
-            texts.push(String::from_str(alloc, text)?)?;
-        }
+) -> Result<Vec<String>, AllocError>
+    ensures { IfOk result (λ texts. map string_bytes texts.items
+        ≡ values_of (found_of matches.now) name.now) }
+{
+    match matches.get_strs(name) {
+        Some(values) => copies_of(alloc, values),
+        None => Ok(Vec::new(alloc)),
     }
-    Ok(texts)
+}
+
+/// Returns copies of texts.
+fn copies_of(alloc: Global, texts: &[&str]) -> Result<Vec<String>, AllocError>
+    ensures { IfOk result (λ copies. map string_bytes copies.items
+        ≡ map (λ text. text.now) texts.now) }
+{
+    let mut copies = Vec::new(alloc);
+    for text in texts {
+        copies.push(String::from_str(alloc, text)?)?;
+    }
+    Ok(copies)
 }
 
 /// Returns the origin, if its option has a value. It is fully qualified, with or without a dot at its end.
@@ -434,7 +489,13 @@ fn origin_in(
     alloc: Global,
     matches: &ArgMatches<'_>,
     file_count: usize,
-) -> Result<Option<Name>, Ending> {
+) -> Result<Option<Name>, Ending>
+    ensures origin { IfOk result (IsOrigin (first_value (found_of matches.now) (codes "origin"))) }
+    ensures one { OnOk result (is_some (first_value (found_of matches.now) (codes "origin"))
+        ≡ true → file_count ≤ 1) }
+    ensures refused { IfErr result (IsOriginRefusal file_count
+        (first_value (found_of matches.now) (codes "origin"))) }
+{
     let Some(text) = matches.get_str("origin") else {
         return Ok(None);
     };
@@ -453,8 +514,10 @@ fn origin_in(
 }
 
 /// Returns which files the zone files may include.
-fn reach_in(matches: &ArgMatches<'_>) -> Reach {
-    if matches.get_str("include-anywhere") == Some("true") {
+fn reach_in(matches: &ArgMatches<'_>) -> Reach
+    ensures { result ≡ reach_of (is_given (found_of matches.now) (codes "include-anywhere")) }
+{
+    if is_given(matches, "include-anywhere") {
         Reach::Anywhere
     } else {
         Reach::Folder
@@ -462,8 +525,10 @@ fn reach_in(matches: &ArgMatches<'_>) -> Reach {
 }
 
 /// Returns whether the serial number of a zone rises by itself with each change of its records.
-fn serials_in(matches: &ArgMatches<'_>) -> Serials {
-    if matches.get_str("keep-serials") == Some("true") {
+fn serials_in(matches: &ArgMatches<'_>) -> Serials
+    ensures { result ≡ serials_of (is_given (found_of matches.now) (codes "keep-serials")) }
+{
+    if is_given(matches, "keep-serials") {
         Serials::Kept
     } else {
         Serials::Rising
@@ -471,7 +536,12 @@ fn serials_in(matches: &ArgMatches<'_>) -> Serials {
 }
 
 /// Returns how many records of differences are kept of each zone.
-fn differences_in(alloc: Global, matches: &ArgMatches<'_>) -> Result<usize, Ending> {
+fn differences_in(alloc: Global, matches: &ArgMatches<'_>) -> Result<usize, Ending>
+    ensures count { IfOk result (IsDifferences
+        (first_value (found_of matches.now) (codes "differences"))) }
+    ensures refused { IfErr result (IsDifferencesRefusal
+        (first_value (found_of matches.now) (codes "differences"))) }
+{
     let Some(text) = matches.get_str("differences") else {
         return Ok(DEFAULT_DIFFERENCES);
     };
@@ -482,10 +552,14 @@ fn differences_in(alloc: Global, matches: &ArgMatches<'_>) -> Result<usize, Endi
 }
 
 /// Returns how requests are answered. Clap has found that at most one of the two options is given.
-fn answering_in(matches: &ArgMatches<'_>) -> Answering {
-    if matches.get_str("plain") == Some("true") {
+fn answering_in(matches: &ArgMatches<'_>) -> Answering
+    ensures { result ≡ answering_of (is_given (found_of matches.now) (codes "plain"))
+        (is_given (found_of matches.now) (codes "minimal-any"))
+        (is_given (found_of matches.now) (codes "keep-serials")) }
+{
+    if is_given(matches, "plain") {
         Answering::Plain
-    } else if matches.get_str("minimal-any") == Some("true") {
+    } else if is_given(matches, "minimal-any") {
         Answering::Whole(AnyAnswer::FirstSet, serials_in(matches))
     } else {
         Answering::Whole(AnyAnswer::AllSets, serials_in(matches))
@@ -493,10 +567,13 @@ fn answering_in(matches: &ArgMatches<'_>) -> Answering {
 }
 
 /// Returns what is done with what the events of a script led to. Clap has found that at most one of the two options is given.
-fn replay_mode_in(matches: &ArgMatches<'_>) -> ReplayMode {
-    if matches.get_str("check") == Some("true") {
+fn replay_mode_in(matches: &ArgMatches<'_>) -> ReplayMode
+    ensures { result ≡ mode_of (is_given (found_of matches.now) (codes "check"))
+        (is_given (found_of matches.now) (codes "bless")) }
+{
+    if is_given(matches, "check") {
         ReplayMode::Check
-    } else if matches.get_str("bless") == Some("true") {
+    } else if is_given(matches, "bless") {
         ReplayMode::Bless
     } else {
         ReplayMode::Print
@@ -504,7 +581,12 @@ fn replay_mode_in(matches: &ArgMatches<'_>) -> ReplayMode {
 }
 
 /// Returns the addresses at which the server listens.
-fn addresses_in(alloc: Global, matches: &ArgMatches<'_>) -> Result<Vec<SocketAddr>, Ending> {
+fn addresses_in(alloc: Global, matches: &ArgMatches<'_>) -> Result<Vec<SocketAddr>, Ending>
+    ensures addresses { IfOk result (λ addresses.
+        AreListened (values_of (found_of matches.now) (codes "listen")) addresses.items) }
+    ensures refused { IfErr result (IsAddressesRefusal (codes "listen")
+        (values_of (found_of matches.now) (codes "listen"))) }
+{
     let mut addresses = socket_addresses_in(alloc, matches, "listen")?;
     if addresses.is_empty() {
         let local = SocketAddrV4::new(Ipv4Addr::LOCALHOST, DEFAULT_PORT);
@@ -518,16 +600,37 @@ fn socket_addresses_in(
     alloc: Global,
     matches: &ArgMatches<'_>,
     option: &str,
-) -> Result<Vec<SocketAddr>, Ending> {
+) -> Result<Vec<SocketAddr>, Ending>
+    ensures addresses { IfOk result (λ addresses.
+        AllZip IsAddress (values_of (found_of matches.now) option.now) addresses.items) }
+    ensures refused { IfErr result (IsAddressesRefusal option.now
+        (values_of (found_of matches.now) option.now)) }
+{
+    match matches.get_strs(option) {
+        Some(values) => addresses_of(alloc, option, values),
+        None => Ok(Vec::new(alloc)),
+    }
+}
+
+/// Returns the addresses and ports that the values of an option state.
+fn addresses_of(alloc: Global, option: &str, values: &[&str]) -> Result<Vec<SocketAddr>, Ending>
+    ensures addresses { IfOk result (λ addresses.
+        AllZip IsAddress (map (λ value. value.now) values.now) addresses.items) }
+    ensures refused { IfErr result (IsAddressesRefusal option.now
+        (map (λ value. value.now) values.now)) }
+{
     let mut addresses = Vec::new(alloc);
-    for text in texts_in(alloc, matches, option)?.as_slice() {
-        addresses.push(address_of(alloc, option, text.as_str())?)?;
+    for value in values {
+        addresses.push(address_of(alloc, option, value)?)?;
     }
     Ok(addresses)
 }
 
-/// Returns the address that the text of an option stands for.
-fn address_of(alloc: Global, option: &str, text: &str) -> Result<SocketAddr, Ending> {
+/// Returns the address and the port that the value of an option states.
+fn address_of(alloc: Global, option: &str, text: &str) -> Result<SocketAddr, Ending>
+    ensures address { IfOk result (IsAddress text.now) }
+    ensures refused { IfErr result (IsAddressRefusal option.now text.now) }
+{
     let Ok(address) = text.parse::<SocketAddr>() else {
         let reason = "it is not an address and a port, such as 127.0.0.1:5300 or [::1]:5300";
         return Err(Ending::invalid(alloc, option, text, reason));
@@ -539,7 +642,9 @@ fn address_of(alloc: Global, option: &str, text: &str) -> Result<SocketAddr, End
 }
 
 /// Returns why the address of an option may not be the unspecified one.
-fn unspecified(option: &str) -> &'static str {
+fn unspecified(option: &str) -> &'static str
+    ensures { result.now ≡ unspecified_reason option.now }
+{
     if option == "notify" {
         "nothing can be sent to it; name the address of the secondary"
     } else {
@@ -549,7 +654,11 @@ fn unspecified(option: &str) -> &'static str {
 }
 
 /// Returns the maximum size of datagrams.
-fn limit_in(alloc: Global, matches: &ArgMatches<'_>) -> Result<DatagramLimit, Ending> {
+fn limit_in(alloc: Global, matches: &ArgMatches<'_>) -> Result<DatagramLimit, Ending>
+    ensures limit { IfOk result (IsLimit (first_value (found_of matches.now) (codes "limit"))) }
+    ensures refused { IfErr result (IsLimitRefusal
+        (first_value (found_of matches.now) (codes "limit"))) }
+{
     let text = matches.get_str("limit").unwrap_or("");
     if let Ok(number) = text.parse::<u16>() {
         if let Ok(limit) = DatagramLimit::new(number) {
@@ -560,8 +669,14 @@ fn limit_in(alloc: Global, matches: &ArgMatches<'_>) -> Result<DatagramLimit, En
 }
 
 /// Returns the addresses from which updates are taken.
-fn updaters_in(alloc: Global, matches: &ArgMatches<'_>) -> Result<AddressList, Ending> {
-    if matches.get_str("no-updates") == Some("true") {
+fn updaters_in(alloc: Global, matches: &ArgMatches<'_>) -> Result<AddressList, Ending>
+    ensures updaters { IfOk result (AreUpdaters
+        (is_given (found_of matches.now) (codes "no-updates"))
+        (values_of (found_of matches.now) (codes "allow-update"))) }
+    ensures refused { IfErr result (IsPrefixesRefusal (codes "allow-update")
+        (values_of (found_of matches.now) (codes "allow-update"))) }
+{
+    if is_given(matches, "no-updates") {
         return Ok(AddressList::new(alloc));
     }
     loopback_and(alloc, matches, "allow-update")
@@ -572,16 +687,41 @@ fn loopback_and(
     alloc: Global,
     matches: &ArgMatches<'_>,
     option: &str,
-) -> Result<AddressList, Ending> {
+) -> Result<AddressList, Ending>
+    ensures addresses { IfOk result (IsLoopbackAnd (values_of (found_of matches.now) option.now)) }
+    ensures refused { IfErr result (IsPrefixesRefusal option.now
+        (values_of (found_of matches.now) option.now)) }
+{
     let mut addresses = AddressList::loopback(alloc)?;
-    for text in texts_in(alloc, matches, option)?.as_slice() {
-        addresses.add(prefix_of(alloc, option, text.as_str())?)?;
+    if let Some(values) = matches.get_strs(option) {
+        add_prefixes(alloc, &mut addresses, option, values)?;
     }
     Ok(addresses)
 }
 
-/// Returns the prefix that the text of an option stands for.
-fn prefix_of(alloc: Global, option: &str, text: &str) -> Result<AddrPrefix, Ending> {
+/// Adds the prefixes that the values of an option state to a list.
+fn add_prefixes(
+    alloc: Global,
+    addresses: &mut AddressList,
+    option: &str,
+    values: &[&str],
+) -> Result<(), Ending>
+    ensures added { OnOk result (AddsPrefixes addresses.old (map (λ value. value.now) values.now)
+        addresses.new) }
+    ensures refused { IfErr result (IsPrefixesRefusal option.now
+        (map (λ value. value.now) values.now)) }
+{
+    for value in values {
+        addresses.add(prefix_of(alloc, option, value)?)?;
+    }
+    Ok(())
+}
+
+/// Returns the prefix that the value of an option states.
+fn prefix_of(alloc: Global, option: &str, text: &str) -> Result<AddrPrefix, Ending>
+    ensures prefix { IfOk result (λ prefix. ReadsPrefix text.now (Ok prefix)) }
+    ensures refused { IfErr result (IsPrefixRefusal option.now text.now) }
+{
     match parse_prefix(text.as_bytes()) {
         Ok(prefix) => Ok(prefix),
         Err(_) => {
@@ -592,8 +732,10 @@ fn prefix_of(alloc: Global, option: &str, text: &str) -> Result<AddrPrefix, Endi
 }
 
 /// Returns what ends the server.
-fn until_in(matches: &ArgMatches<'_>) -> Until {
-    if matches.get_str("until-stdin-closes") == Some("true") {
+fn until_in(matches: &ArgMatches<'_>) -> Until
+    ensures { result ≡ until_of (is_given (found_of matches.now) (codes "until-stdin-closes")) }
+{
+    if is_given(matches, "until-stdin-closes") {
         Until::InputEnds
     } else {
         Until::Signal

@@ -1,6 +1,10 @@
 //! The arguments about keys and a journal.
 
-use crate::arguments::{flag, option, text_in, texts_in};
+ghost use Rattle.std.specs.Prelude.{◌≡◌, ◌≤◌, IfOk, IfErr, OnOk, None, true, is_some, codes};
+ghost use Rattle.clap.specs.Matches.{first_value, found_of};
+ghost use Rattle.nameserver_cli.specs.DurableArguments.{AreDurable, IsFaultsRefusal, IsJournalLimit, IsJournalLimitRefusal, IsJournalRefusal, is_durable};
+
+use crate::arguments::{flag, is_given, option, text_in, texts_in};
 use crate::ending::Ending;
 use clap::{ArgAction, ArgMatches, Command};
 use std::alloc::{AllocError, Global};
@@ -42,7 +46,9 @@ impl Drop for DurableArguments {
 
 impl DurableArguments {
     /// Returns `true` if there is a journal, a key or a grant.
-    pub fn is_given(&self) -> bool {
+    pub fn is_given(&self) -> bool
+        ensures { result ≡ is_durable self.now }
+    {
         self.journal.is_some() || !self.keys.is_empty() || !self.grants.is_empty()
     }
 }
@@ -93,13 +99,20 @@ pub(crate) fn durable_in(
     alloc: Global,
     matches: &ArgMatches<'_>,
     file_count: usize,
-) -> Result<DurableArguments, Ending> {
+) -> Result<DurableArguments, Ending>
+    ensures given { IfOk result (AreDurable (found_of matches.now)) }
+    ensures one { OnOk result (is_some (first_value (found_of matches.now) (codes "journal")) ≡ true
+        → file_count ≤ 1) }
+    ensures no_faults { IfOk result (λ durable.
+        is_durable durable ≡ true
+        → first_value (found_of matches.now) (codes "faults") ≡ None) }
+{
     let journal = text_in(alloc, matches, "journal")?;
     check_journal(alloc, matches, file_count)?;
     let durable = DurableArguments {
         journal,
         journal_limit: limit_in(alloc, matches)?,
-        compact: matches.get_str("compact") == Some("true"),
+        compact: is_given(matches, "compact"),
         keys: texts_in(alloc, matches, "key")?,
         grants: texts_in(alloc, matches, "grant")?,
     };
@@ -110,7 +123,12 @@ pub(crate) fn durable_in(
 }
 
 /// Refuses a journal with several zone files.
-fn check_journal(alloc: Global, matches: &ArgMatches<'_>, file_count: usize) -> Result<(), Ending> {
+fn check_journal(alloc: Global, matches: &ArgMatches<'_>, file_count: usize) -> Result<(), Ending>
+    ensures ok { OnOk result (is_some (first_value (found_of matches.now) (codes "journal")) ≡ true
+        → file_count ≤ 1) }
+    ensures refused { IfErr result (IsJournalRefusal file_count
+        (first_value (found_of matches.now) (codes "journal"))) }
+{
     match matches.get_str("journal") {
         Some(path) if file_count > 1 => {
             Err(Ending::invalid(alloc, "journal", path, "there is more than one zone file"))
@@ -120,7 +138,11 @@ fn check_journal(alloc: Global, matches: &ArgMatches<'_>, file_count: usize) -> 
 }
 
 /// Refuses a fault table beside keys or a journal.
-fn refuse_faults(alloc: Global, matches: &ArgMatches<'_>) -> Result<(), Ending> {
+fn refuse_faults(alloc: Global, matches: &ArgMatches<'_>) -> Result<(), Ending>
+    ensures ok { OnOk result (first_value (found_of matches.now) (codes "faults") ≡ None) }
+    ensures refused { IfErr result (IsFaultsRefusal
+        (first_value (found_of matches.now) (codes "faults"))) }
+{
     match matches.get_str("faults") {
         Some(path) => {
             let reason = "faults are not made beside keys or a journal";
@@ -131,7 +153,12 @@ fn refuse_faults(alloc: Global, matches: &ArgMatches<'_>) -> Result<(), Ending> 
 }
 
 /// Returns the length from which on a journal is begun anew.
-fn limit_in(alloc: Global, matches: &ArgMatches<'_>) -> Result<usize, Ending> {
+fn limit_in(alloc: Global, matches: &ArgMatches<'_>) -> Result<usize, Ending>
+    ensures limit { IfOk result (IsJournalLimit
+        (first_value (found_of matches.now) (codes "journal-limit"))) }
+    ensures refused { IfErr result (IsJournalLimitRefusal
+        (first_value (found_of matches.now) (codes "journal-limit"))) }
+{
     let Some(text) = matches.get_str("journal-limit") else {
         return Ok(DEFAULT_LIMIT);
     };

@@ -34,6 +34,11 @@ pub enum Ending {
 }
 
 impl From<AllocError> for Ending {
+    ghost use Rattle.std.specs.Prelude.{◌≡◌};
+    ghost use Rattle.nameserver_cli.specs.declared.ending.Ending.TheVariants.{Memory};
+
+    ghost from_gives = { λ _ ending. ending ≡ Memory };
+
     fn from(_error: AllocError) -> Ending {
         // The memory was refused to the call that returned the error.
         Ending::Memory
@@ -41,6 +46,11 @@ impl From<AllocError> for Ending {
 }
 
 impl<T: Drop> From<AllocFailed<T>> for Ending {
+    ghost use Rattle.std.specs.Prelude.{◌≡◌};
+    ghost use Rattle.nameserver_cli.specs.declared.ending.Ending.TheVariants.{Memory};
+
+    ghost from_gives = { λ _ ending. ending ≡ Memory };
+
     fn from(_error: AllocFailed<T>) -> Ending {
         // The memory was refused to the call that returned the error.
         Ending::Memory
@@ -48,8 +58,14 @@ impl<T: Drop> From<AllocFailed<T>> for Ending {
 }
 
 impl Ending {
-    /// Creates the ending for an invalid value of an option.
-    pub fn invalid(alloc: Global, option: &str, value: &str, reason: &str) -> Ending {
+    ghost use Rattle.std.specs.Prelude.{◌≡◌, ◌↔◌, IsTrue};
+    ghost use Rattle.nameserver_cli.specs.Ending.{IsAnswer, IsOfInvalidValue, status_of};
+
+    /// Creates the ending for an invalid value of an option: [`Ending::InvalidValue`], or [`Ending::Memory`] if memory for the line is
+    /// refused.
+    pub fn invalid(alloc: Global, option: &str, value: &str, reason: &str) -> Ending
+        ensures { IsOfInvalidValue option.now value.now reason.now result }
+    {
         match format!(in alloc; "invalid value '{value}' for '--{option}': {reason}") {
             Ok(line) => Ending::InvalidValue(line),
             // Memory for the line was refused.
@@ -58,7 +74,9 @@ impl Ending {
     }
 
     /// Returns `true` if the program was asked for its help or its version, which go to standard output.
-    pub fn is_answer(&self) -> bool {
+    pub fn is_answer(&self) -> bool
+        ensures { IsTrue result ↔ IsAnswer self.now }
+    {
         match self {
             Ending::Arguments(error) => !error.use_stderr(),
             _ => false,
@@ -67,7 +85,9 @@ impl Ending {
 
     /// Returns the exit status: 2 if the arguments are at fault, otherwise 1. Of a comparison, 1 says that a script expects something
     /// else, and 2 that it was not compared.
-    pub fn status(&self, is_comparison: bool) -> u8 {
+    pub fn status(&self, is_comparison: bool) -> u8
+        ensures { result ≡ status_of is_comparison self.now }
+    {
         match self {
             Ending::Arguments(_) | Ending::InvalidValue(_) | Ending::NotUtf8 => 2,
             Ending::Differs => 1,
@@ -78,6 +98,10 @@ impl Ending {
 }
 
 impl fmt::Display for Ending {
+    ghost use Rattle.nameserver_cli.specs.Ending.{ending_text};
+
+    ghost output = { λ ending. ending_text ending };
+
     /// Writes what the program says, with its line break.
     fn fmt<W: fmt::Write>(&self, f: &mut fmt::Formatter<W>) -> fmt::Result {
         match self {

@@ -1,0 +1,5 @@
+pub mod Addresses
+pub mod Arguments
+pub mod DurableArguments
+pub mod Ending
+pub mod Options
