@@ -37,6 +37,7 @@ unchanged : (bytes : List ℕ) (old new : ZoneServer) (updates : Updates) → ol
 unchanged bytes old new updates fresh same = record {
   left = inl (ap (λ (z : ZoneServer). z.server) same);
   changed = subst (λ (c : Option ZoneChange). IsRecordableOf old.server c new.server) (sym (ap (λ (z : ZoneServer). z.change) same ∙ fresh)) (ap (λ (z : ZoneServer). z.server) same);
+  way = ap (λ (z : ZoneServer). z.answering) same;
 }
 
 -- ---- one request that is decoded
@@ -50,7 +51,7 @@ update_or_not (ops.Unknown number) = inr (λ e. absurd (cc e))
 
 module _ (bytes : List ℕ) (m : Message) (reads : ReadsMessage bytes m) (old : ZoneServer) (context : Context) (fresh : old.change ≡ None) where
   of_served : (reply : List ℕ) (new : ZoneServer) → Serves old context m reply new → LeavesZones old context.updates bytes new
-  of_served reply new is = record { left = inr (record { request = m; reads = reads; after_is = is.zones }); changed = is.changed }
+  of_served reply new is = record { left = inr (record { request = m; reads = reads; after_is = is.zones }); changed = is.changed; way = is.way }
 
   of_same : (new : ZoneServer) → new ≡ old → LeavesZones old context.updates bytes new
   of_same new same = unchanged bytes old new context.updates fresh same
@@ -61,6 +62,7 @@ module _ (bytes : List ℕ) (m : Message) (reads : ReadsMessage bytes m) (old : 
   of_former reply new (Some f) is = record {
     left = inl is.zones;
     changed = subst (λ (c : Option ZoneChange). IsRecordableOf old.server c new.server) (sym is.changed) is.zones;
+    way = is.way;
   }
 
   of_stale : (reply : List ℕ) (new : ZoneServer) → ServesStale old context m reply new → LeavesZones old context.updates bytes new
@@ -116,7 +118,7 @@ left_by_error old bytes context new fresh (inr (m, reads, left)) = of_left bytes
 -- the same by the server from before, which may have remembered an update
 pub of_forgetful : (old : ZoneServer) (updates : Updates) (bytes : List ℕ) (new : ZoneServer) → LeavesZones (forgetful old) updates bytes new
     → LeavesZones old updates bytes new
-of_forgetful old updates bytes new leaves = record { left = leaves.left; changed = leaves.changed }
+of_forgetful old updates bytes new leaves = record { left = leaves.left; changed = leaves.changed; way = leaves.way }
 
 -- ---- who may update
 

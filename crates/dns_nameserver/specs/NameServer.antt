@@ -96,16 +96,19 @@ pub record IsLeftByRequest (answering : Answering) (updates : Updates) (zones : 
   pub after_is : after ≡ zones_served answering updates zones request
 
 -- The zones after a request, whatever becomes of its reply: they are unchanged, or as the request leaves them, and this is
--- remembered.
+-- remembered. Further requests are answered in the same way.
 pub record LeavesZones (old : ZoneServer) (updates : Updates) (bytes : List ℕ) (new : ZoneServer) : Type 0 where
   pub left : (new.server ≡ old.server) ⊎ IsLeftByRequest old.answering updates old.server bytes new.server
   pub changed : IsRecordableOf old.server new.change new.server
+  pub way : new.answering ≡ old.answering
 
--- The same of a request from an address, which may update if a list covers it.
+-- The same of a request from an address, which may update if a list covers it. The list stays, and the limit of datagrams.
 pub record LeavesZonesFrom (old : NameServer) (address : IpAddr) (bytes : List ℕ) (new : NameServer) : Type 0 where
   pub covered : Bool
   pub coverage : IsCoverageOf old.updaters address covered
   pub leaves : LeavesZones old.zones (updates_of covered) bytes new.zones
+  pub limit_kept : new.limit ≡ old.limit
+  pub updaters_kept : new.updaters ≡ old.updaters
 
 -- What a request leads to: a reply and how it is sent, the line of the rule that made a fault, whether records have changed, and
 -- the zones and rules after it. Only requestors whose address is covered may update.

@@ -1,41 +1,44 @@
 -- A turn in which two datagrams arrive, are handled together, and have their replies, one of them twice; then a third reply is not paid.
-use Rattle.std.proofs.Common.{◌≡◌, ◌+◌, ◌≤◌, ℕ, Bool, true, false, List, [], ◌∷◌, ◌++◌, map, Some, None, arith, inl, inr, refl, subst, sym}
+use Rattle.std.proofs.Common.{◌≡◌, ℕ, Bool, true, false, List, [], ◌∷◌, ◌++◌, map, Some, None, arith, inl, inr, refl, subst, sym}
 use Rattle.std.specs.Global.{Vec}
 use Rattle.std.specs.declared.net.socket_addr.SocketAddr.{SocketAddr}
 use Rattle.dns_faults.specs.declared.delivery.Delivery.{Delivery}
 use Rattle.dns_sockets.specs.Datagrams.{Gathers, Handle, Handles, IsTurn, Receive, TakesIf, are_handled, content_at, datagram_at, datagram_content}
 use Rattle.dns_sockets.specs.Handler.{Handled}
-use Rattle.dns_sockets.specs.Ledger.{AllPaid, Earns, Weight, replies as counted, requests}
+use Rattle.dns_sockets.specs.Ledger.{AllPaid, Earns, replies as counted, requests}
 use Rattle.dns_sockets.specs.Notices.{is_response}
+use Rattle.dns_sockets.specs.Sent.{IsGiven}
+use Rattle.dns_sockets.specs.Sent.IsGiven.{as_notice, as_reply}
 use Rattle.dns_sockets.specs.Trace.{Act, At, By, Socket}
-use Rattle.dns_sockets.specs.World.{Received, Sent, WorldEvent}
+use Rattle.dns_sockets.specs.World.{Received, Sent}
 use Rattle.dns_sockets.specs.declared.datagrams.Datagram.{Datagram}
 use Rattle.dns_sockets.specs.declared.datagrams.WaitingReply.{WaitingReply}
 use Rattle.dns_sockets.specs.schedule.Schedule.{ScheduleContent}
 use Rattle.dns_sockets.proofs.LedgerLaws.{turn_earns}
+use Rattle.dns_sockets.proofs.SentLaws.{given}
 
 module _ (first second : SocketAddr) (question reply other : Vec ℕ) (asks : is_response question.items ≡ false) where
-  abbrev none_waits : ScheduleContent WaitingReply
+  abbrev pub none_waits : ScheduleContent WaitingReply
   none_waits = record { items = []; capacity = 4096; pushed = 0 }
 
-  abbrev from : SocketAddr → Datagram
+  abbrev pub from : SocketAddr → Datagram
   from peer = record { peer = peer; bytes = question }
 
-  abbrev once : Delivery
+  abbrev pub once : Delivery
   once = record { reply = Some reply; copies = 1; after_milliseconds = 0; close_after = None }
 
-  abbrev twice : Delivery
+  abbrev pub twice : Delivery
   twice = record { reply = Some other; copies = 2; after_milliseconds = 0; close_after = None }
 
-  abbrev arrived : SocketAddr → List Act
+  abbrev pub arrived : SocketAddr → List Act
   arrived peer = At (Received 0 question.items peer) ∷ []
 
-  abbrev replies : List Act
+  abbrev pub replies : List Act
   replies =
       By (Socket 0) (Handled (map (content_at 5) (from first ∷ from second ∷ [])) (Some (once ∷ twice ∷ [])))
       ∷ At (Sent 0 reply.items first true) ∷ At (Sent 0 other.items second true) ∷ At (Sent 0 other.items second false) ∷ []
 
-  abbrev acts : List Act
+  abbrev pub acts : List Act
   acts = arrived first ++ arrived second ++ replies
 
   handled : Handles 0 5 (from first ∷ from second ∷ []) none_waits replies none_waits
@@ -102,3 +105,19 @@ module _ (first second : SocketAddr) (question reply other : Vec ℕ) (asks : is
   -- and a request more was not there
   pub one_more_had_not_arrived : AllPaid (requests (λ socket peer bytes. 1)) 0 (acts ++ By (Socket 0) (Handled (map (content_at 5) (from first ∷ [])) None) ∷ []) → ⊥
   one_more_had_not_arrived paid = let last = paid.1.1.1.1.1.1.0 in omega (arith, last)
+
+  -- what is sent was given
+  pub a_reply_is_given : IsGiven 0 reply.items first (arrived first ++ arrived second ++ By (Socket 0) (Handled (map (content_at 5) (from first ∷ from second ∷ [])) (Some (once ∷ twice ∷ []))) ∷ [])
+  a_reply_is_given =
+      given [] (arrived first ++ arrived second ++ By (Socket 0) (Handled (map (content_at 5) (from first ∷ from second ∷ [])) (Some (once ∷ twice ∷ []))) ∷ [])
+      (At (Sent 0 other.items second true) ∷ At (Sent 0 other.items second false) ∷ []) 0 reply.items first earned
+
+-- and nothing is given by nothing
+no_act : (before : List Act) (act : Act) (rest : List Act) → [] ≡ before ++ act ∷ rest → ⊥
+no_act [] act rest none = cc none
+no_act (x ∷ before) act rest none = cc none
+
+pub nothing_is_given : (socket : ℕ) (bytes : List ℕ) (peer : SocketAddr) → IsGiven socket bytes peer [] → ⊥
+nothing_is_given socket bytes peer (as_reply request delivery reply handled same_peer same_reply same_bytes) =
+    no_act handled.before (By (Socket socket) (Handled handled.requests (Some handled.deliveries))) handled.rest handled.acts_are
+nothing_is_given socket bytes peer (as_notice now contains) = absurd (omega (arith, contains.1))

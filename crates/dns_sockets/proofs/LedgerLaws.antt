@@ -1,20 +1,18 @@
 -- What acts cost and bring, one after another.
-use Rattle.std.proofs.Common.{◌≡◌, ◌∙◌, ◌+◌, ◌-◌, ◌*◌, ◌≤◌, ◌<◌, ℕ, zero, suc, Bool, true, false, List, [], ◌∷◌, ◌++◌, length, map, Option, Some, None, inl, inr, refl, sym, ap, subst, arith}
+use Rattle.std.proofs.Common.{◌≡◌, ◌∙◌, ◌+◌, ◌-◌, ◌*◌, ◌≤◌, ℕ, zero, suc, Bool, true, false, List, [], ◌∷◌, ◌++◌, length, map, Option, Some, None, inl, inr, refl, sym, ap, subst, arith}
 use Rattle.std.proofs.Math.Nat.{suc-mul}
 use Rattle.std.specs.Prelude.{nat_le, nat_lt, if◌then◌else◌, ◌⊎◌, ⊤}
 use Rattle.std.specs.Global.{Vec}
 use Rattle.std.specs.List.{AllByRecursion}
 use Rattle.std.specs.declared.net.socket_addr.SocketAddr.{SocketAddr}
 use Rattle.dns_faults.specs.declared.delivery.Delivery.{Delivery}
-use Rattle.dns_sockets.specs.Datagrams
-use Rattle.dns_sockets.specs.Datagrams.{AreSent, AreSteps, Delivers, DeliversAll, DeliversAt, DeliversIf, DeliversReply, HandlesIf, Handles, Handle, GathersIf, IsAddedOrLost, IsEmpty, IsReceive, IsTurn, Receive, Receives, ReceivesBy, TakesIf, TurnStep, content_at, datagram_at, datagram_content, peer_of, waiting_reply}
-use Rattle.dns_sockets.specs.Handler.{HandlerEvent, Handled, NoticeContent, Noticed, RequestContent, Took, Transferred}
-use Rattle.dns_sockets.specs.Ledger.{AllPaid, Book, Earns, EarnsReplies, HandlesArrived, Weight, cost, deliveries_worth, event_cost, gain, arrived_gain, handled_cost, left_of, notice_gain, replies, requests, requests_worth, reply_worth, socket_gain, waiting_worth}
+use Rattle.dns_sockets.specs.Datagrams.{AreSent, AreSteps, DeliversAll, DeliversAt, DeliversIf, DeliversReply, HandlesIf, Handles, Handle, GathersIf, IsAddedOrLost, IsEmpty, IsReceive, IsTurn, Receive, Receives, ReceivesBy, TakesIf, TurnStep, content_at, datagram_at, datagram_content, peer_of, waiting_reply}
+use Rattle.dns_sockets.specs.Handler.{HandlerEvent, Handled, NoticeContent, Noticed, RequestContent}
+use Rattle.dns_sockets.specs.Ledger.{AllPaid, Book, Earns, EarnsReplies, HandlesArrived, Weight, deliveries_worth, event_cost, left_of, replies, requests, requests_worth, reply_worth, waiting_worth}
 use Rattle.dns_sockets.specs.Notices.{AreNotices, AreTries, IsNotice, is_response}
 use Rattle.dns_sockets.specs.Stream.{later_by}
-use Rattle.dns_sockets.specs.Events.{Performs}
-use Rattle.dns_sockets.specs.Trace.{Act, At, By, Connection, IsAside, IsAsideEvent, Nowhere, Origin, Socket, Traces}
-use Rattle.dns_sockets.proofs.TraceLaws.{all_events, all_more, leads_at, leads_both}
+use Rattle.dns_sockets.specs.Trace.{Act, At, By, Connection, IsAside, IsAsideEvent, Nowhere, Socket}
+use Rattle.dns_sockets.proofs.TraceLaws.{all_more}
 use Rattle.dns_sockets.specs.World.{WorldEvent, AreCopies, Accepted, Admitted, Clocked, Closed, IsSent, Read, Received, Sent, Unreceived, Waited, Woken, Written}
 use Rattle.dns_sockets.specs.declared.datagrams.Datagram.{Datagram}
 use Rattle.dns_sockets.specs.declared.datagrams.WaitingReply.{WaitingReply}

@@ -6,6 +6,8 @@ pub mod DueLaws
 pub mod NoticeLaws
 pub mod StreamLaws
 pub mod LedgerLaws
+pub mod DeadlineLaws
+pub mod SentLaws
 pub mod EarnsWitness
 pub mod StreamStepLaws
 pub mod ConnectionLaws

@@ -1,11 +1,8 @@
 -- What a service does, one part after another.
-use Rattle.std.proofs.Common.{◌≡◌, ◌∙◌, ◌+◌, ◌⊎◌, inl, inr, zero, suc, ℕ, List, [], ◌∷◌, ◌++◌, length, map, Bool, true, false, Option, Some, None, refl, sym, ap, subst}
-use Rattle.std.specs.Global.{Vec}
+use Rattle.std.proofs.Common.{◌≡◌, inl, inr, zero, suc, ℕ, List, [], ◌∷◌, ◌++◌, map, Option, refl, sym, subst}
 use Rattle.std.specs.List.{AllByRecursion}
 use Rattle.std.specs.Prelude.{⊤, Result, Ok, Err}
 use Rattle.std.specs.declared.io.Error.{Error}
-use Rattle.std.specs.declared.net.socket_addr.SocketAddr.{SocketAddr}
-use Rattle.std.proofs.lemmas.List.{map-append}
 use Rattle.dns_sockets.specs.Connections.{AreFollowed, AreKept, Follows, Place, place_in}
 use Rattle.dns_sockets.specs.Datagrams.{AreSent, AreSteps, Handle, IsReceive, IsTurn, Receive, TurnStep, peer_of}
 use Rattle.dns_sockets.specs.Events.{Performs}
@@ -13,8 +10,8 @@ use Rattle.dns_sockets.specs.Handler.{HandlerEvent, NoticeContent}
 use Rattle.dns_sockets.specs.Ledger.{Earns}
 use Rattle.dns_sockets.specs.Notices.{AreNotices, IsNotice}
 use Rattle.dns_sockets.specs.Served.{IsServed}
-use Rattle.dns_sockets.specs.Trace.{Act, At, By, Connection, IsAside, IsAsideEvent, IsQuiet, Nowhere, Origin, Socket, Traces}
-use Rattle.dns_sockets.specs.World.{WorldEvent, Accepted, Admitted, AreCopies, Clocked, Closed, IsSent, Read, Received, Sent, Unreceived, Waited, Woken, Written, clock_event}
+use Rattle.dns_sockets.specs.Trace.{Act, At, By, Connection, IsAside, IsAsideEvent, IsQuiet, Nowhere, Socket, Traces}
+use Rattle.dns_sockets.specs.World.{WorldEvent, Accepted, Admitted, Clocked, Closed, Read, Received, Sent, Unreceived, Waited, Woken, Written, clock_event}
 use Rattle.dns_sockets.specs.declared.datagrams.Datagram.{Datagram}
 use Rattle.dns_sockets.specs.declared.datagrams.WaitingReply.{WaitingReply}
 use Rattle.dns_sockets.specs.declared.stream.Stream.{Stream}

@@ -1,5 +1,5 @@
 -- What the steps of a connection do to it.
-use Rattle.std.proofs.Common.{◌≡◌, ◌∙◌, ◌+◌, ◌≤◌, ◌||◌, ◌==◌, zero, suc, Bool, true, false, cond, is_some, ℕ, List, [], ◌∷◌, ◌++◌, length, map, take, drop, append-nil, Option, Some, None, refl, sym, ap, subst, arith}
+use Rattle.std.proofs.Common.{◌≡◌, ◌∙◌, ◌+◌, ◌≤◌, ◌||◌, ◌==◌, Bool, true, false, cond, is_some, ℕ, List, [], ◌∷◌, ◌++◌, length, map, take, drop, append-nil, Option, Some, None, refl, sym, ap, subst, arith}
 use Rattle.std.proofs.lemmas.Bool.Decides.{nat_tests}
 use Rattle.std.proofs.Math.Seq.{take-append_seam}
 use Rattle.std.proofs.lemmas.List.{drop-append-le, length-take, map-append, take-append-le}

@@ -1,6 +1,6 @@
 -- What may happen on the connections of a service. Requests are handled in the order in which they arrived, replies are written in the order
 -- of their requests, and nothing more is handled for a peer that does not read its replies (RFC 7766 sections 6.2 and 7).
-use Rattle.std.specs.Prelude.{◌≡◌, ◌+◌, ◌≤◌, ◌==◌, ◌||◌, Bool, true, false, is_some, IsSome, IsSomeAnd, ℕ, List, [], ◌∷◌, ◌++◌, length, take, drop, map, option_map, slice_get, ⊤, Option, Some, None}
+use Rattle.std.specs.Prelude.{◌≡◌, ◌+◌, ◌≤◌, ◌==◌, ◌||◌, Bool, true, false, is_some, IsSome, IsSomeAnd, ℕ, List, [], ◌∷◌, ◌++◌, length, take, drop, option_map, slice_get, ⊤, Option, Some, None}
 use Rattle.std.specs.Global.{Vec}
 use Rattle.std.specs.declared.net.socket_addr.SocketAddr.{SocketAddr}
 use Rattle.dns_faults.specs.declared.delivery.Delivery.{Delivery}
@@ -167,11 +167,12 @@ Follows index old (act ∷ acts) new = IsActAllowed index old act × Follows ind
 
 -- ---- all of them
 
--- what waits of replies that are held, unless the connection is closing already
+-- what waits of replies that are held, up to one that closes the connection
 abbrev pub held_bytes : List HeldReply → List ℕ
 held_bytes [] = []
 held_bytes (held ∷ more) = reply_bytes held.close_after held.reply ++ unless_closed held.close_after (held_bytes more)
 
+-- the same, and nothing where the connection is closing already
 abbrev pub waiting_bytes : Bool → List HeldReply → List ℕ
 waiting_bytes true held = []
 waiting_bytes false held = held_bytes held

@@ -13,3 +13,6 @@ pub mod Datagrams
 pub mod schedule
 pub mod Ledger
 pub mod Served
+pub mod Sent
+pub mod Deadlines
+pub mod Tokens

@@ -1,5 +1,5 @@
 -- What was read and written on a connection, the requests that were handled, and the replies to them.
-use Rattle.std.specs.Prelude.{◌≡◌, ◌==◌, if◌then◌else◌, Bool, true, false, ℕ, List, [], ◌∷◌, ◌++◌, ⊤, Option, Some, None}
+use Rattle.std.specs.Prelude.{◌≡◌, ◌==◌, if◌then◌else◌, true, ℕ, List, [], ◌∷◌, ◌++◌, ⊤, Some}
 use Rattle.dns_server.specs.Connection.{behind_frame, first_message}
 use Rattle.dns_sockets.specs.Connections.{delivered, transferred}
 use Rattle.dns_sockets.specs.Handler.{HandlerEvent, RequestContent, Handled, Transferred}

@@ -2,6 +2,7 @@
 
 ghost use Rattle.std.specs.Prelude.{◌≡◌, [], map, List};
 ghost use Rattle.dns_sockets.specs.Datagrams.{AreSent, Delivers, DeliversAll, Gathers, Handles, HandlesIf, IsAddedOrLost, IsTurn, Receives, TakesIf, datagram_at, is_complete, peer_of};
+ghost use Rattle.dns_sockets.specs.Deadlines.{earliest, socket_deadline};
 ghost use Rattle.dns_sockets.specs.Events.{Performs};
 ghost use Rattle.dns_sockets.specs.Handler.{deliveries_if, request_content};
 ghost use Rattle.dns_sockets.specs.Notices.{is_response};
@@ -87,7 +88,7 @@ impl DatagramSocket {
 
     /// Returns when datagrams may wait.
     pub(crate) fn deadline(&self) -> Milliseconds
-        ensures { result ≡ self.now.ready_at }
+        ensures { result ≡ socket_deadline self.now }
     {
         self.ready_at
     }
@@ -396,4 +397,15 @@ pub(crate) fn send_due<W: World>(
         };
         send(world, &reply);
     }
+}
+
+/// Returns the earliest moment at which datagrams may wait at one of some sockets.
+pub(crate) fn earliest_socket(sockets: &[DatagramSocket]) -> Milliseconds
+    ensures { result ≡ earliest socket_deadline sockets.now }
+{
+    let mut least = Milliseconds::MAX;
+    for socket in sockets {
+        least = least.min(socket.deadline());
+    }
+    least
 }

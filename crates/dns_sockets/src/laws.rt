@@ -1,11 +1,13 @@
 //! Theorems about the definitions of this crate, as functions with empty bodies.
 
-ghost use Rattle.std.specs.Prelude.{[], ℕ, List, Option};
+ghost use Rattle.std.specs.Prelude.{[], ◌∷◌, ◌++◌, true, ℕ, List, Option};
 ghost use Rattle.std.specs.declared.net.socket_addr.SocketAddr.{SocketAddr};
 ghost use Rattle.dns_sockets.specs.Connections.{AreFollowed};
 ghost use Rattle.dns_sockets.specs.Ledger.{AllPaid, Earns, Weight, replies, requests};
 ghost use Rattle.dns_sockets.specs.StreamHistory.{HaveArrived, IsFront, handled_on, read_on, replied_on, written_on};
-ghost use Rattle.dns_sockets.specs.Trace.{Act};
+ghost use Rattle.dns_sockets.specs.Sent.{IsGiven};
+ghost use Rattle.dns_sockets.specs.Trace.{Act, At};
+ghost use Rattle.dns_sockets.specs.World.{Sent};
 ghost use Rattle.dns_sockets.specs.declared.datagrams.WaitingReply.{WaitingReply};
 ghost use Rattle.dns_sockets.specs.declared.stream.Stream.{Stream};
 ghost use Rattle.dns_sockets.specs.schedule.Schedule.{Waiting};
@@ -28,4 +30,13 @@ pub fn streams_answer_in_order()
         → (index : ℕ) → HaveArrived (read_on index [] acts) (handled_on index [] acts) }
     ensures replies { (new : List (Option Stream)) (acts : List Act) → AreFollowed [] new acts
         → (index : ℕ) → IsFront (written_on index [] acts) (replied_on index [] acts) }
+{}
+
+/// Each datagram that a service without replies that wait sends, and that the system takes, is what its handler gave before: for a
+/// request that the same peer had sent to the same socket, or without a request.
+pub fn every_datagram_is_given()
+    ensures { (new : List (Waiting WaitingReply)) (before rest : List Act)
+        (socket : ℕ) (bytes : List ℕ) (peer : SocketAddr)
+        → Earns [] new (before ++ At (Sent socket bytes peer true) ∷ rest)
+        → IsGiven socket bytes peer before }
 {}

@@ -32,5 +32,5 @@ mod world;
 pub use clock::Milliseconds;
 pub use handler::{Handler, Notice, Request, Transport};
 pub use service::{MAX_STREAMS, Service};
-pub use sockets::{SocketWorld, Until};
+pub use sockets::SocketWorld;
 pub use world::{Arrival, Progress, Receipt, Wake, World};

@@ -1,8 +1,9 @@
 //! Listeners for connections.
 
 ghost use Rattle.std.specs.List.{AllByRecursion};
-ghost use Rattle.std.specs.Prelude.{map};
+ghost use Rattle.std.specs.Prelude.{◌≡◌, map};
 ghost use Rattle.dns_sockets.specs.Connections.{AreFollowed, IsAdmitted};
+ghost use Rattle.dns_sockets.specs.Deadlines.{earliest, listener_deadline};
 ghost use Rattle.dns_sockets.specs.Events.{Performs};
 ghost use Rattle.dns_sockets.specs.Trace.{At, IsAsideEvent};
 
@@ -28,17 +29,23 @@ pub(crate) struct Listener {
 
 impl Listener {
     /// Creates the state of a listener that was opened.
-    pub(crate) fn new() -> Listener {
+    pub(crate) fn new() -> Listener
+        ensures { result.ready_at ≡ 0 }
+    {
         Listener { ready_at: 0 }
     }
 
     /// Takes note that connections wait to be accepted.
-    pub(crate) fn note(&mut self) {
+    pub(crate) fn note(&mut self)
+        ensures { self.new.ready_at ≡ 0 }
+    {
         self.ready_at = 0;
     }
 
     /// Returns when connections may wait to be accepted.
-    pub(crate) fn deadline(&self) -> Milliseconds {
+    pub(crate) fn deadline(&self) -> Milliseconds
+        ensures { result ≡ listener_deadline self.now }
+    {
         self.ready_at
     }
 
@@ -96,6 +103,17 @@ impl Listener {
             }
         }
     }
+}
+
+/// Returns the earliest moment at which connections may wait at one of some listeners.
+pub(crate) fn earliest_listener(listeners: &[Listener]) -> Milliseconds
+    ensures { result ≡ earliest listener_deadline listeners.now }
+{
+    let mut least = Milliseconds::MAX;
+    for listener in listeners {
+        least = least.min(listener.deadline());
+    }
+    least
 }
 
 /// Admits a connection to the table. One for which the system has no room is closed.

@@ -4,13 +4,15 @@ ghost use Rattle.std.specs.List.{AllByRecursion};
 ghost use Rattle.std.specs.Prelude.{◌≡◌, [], IfOk, map};
 ghost use Rattle.dns_sockets.specs.Events.{Performs};
 ghost use Rattle.dns_sockets.specs.Connections.{AreFollowed, AreKept};
+ghost use Rattle.dns_sockets.specs.Deadlines.{WaitsUntil, service_deadline};
+ghost use Rattle.dns_sockets.specs.Notices.{sooner};
 ghost use Rattle.dns_sockets.specs.Served.{IsServed};
 ghost use Rattle.dns_sockets.specs.Trace.{At, IsAsideEvent, IsQuiet, Traces};
 
 use crate::clock::Milliseconds;
-use crate::datagrams::{DatagramSocket, WaitingReply, send_due};
+use crate::datagrams::{DatagramSocket, WaitingReply, earliest_socket, send_due};
 use crate::handler::Handler;
-use crate::listener::Listener;
+use crate::listener::{Listener, earliest_listener};
 use crate::notices::{send_notices, sooner};
 use crate::schedule::Schedule;
 use crate::stream_table::StreamTable;
@@ -112,7 +114,9 @@ impl Service {
     /// Waits until there is something to do: not at all if there is now, and without end if there will not be. At a moment, something
     /// is to be sent without a request.
     fn wait<W: World>(&self, world: &mut W, moment: Option<Milliseconds>) -> io::Result<()>
-        ensures { Performs W.performs world.old world.new (AllByRecursion IsQuiet) }
+        ensures quiet { Performs W.performs world.old world.new (AllByRecursion IsQuiet) }
+        ensures until { Performs W.performs world.old world.new
+            (WaitsUntil (sooner (service_deadline self.now) moment)) }
     {
         let deadline = sooner(self.deadline(), moment);
         if deadline == Milliseconds::MAX {
@@ -123,18 +127,12 @@ impl Service {
     }
 
     /// Returns when there is something to do without an event.
-    fn deadline(&self) -> Milliseconds {
-        let mut least = self.streams.deadline();
-        if let Some(moment) = self.waiting.next_moment() {
-            least = least.min(moment);
-        }
-        for socket in self.datagrams.as_slice() {
-            least = least.min(socket.deadline());
-        }
-        for listener in self.listeners.as_slice() {
-            least = least.min(listener.deadline());
-        }
-        least
+    fn deadline(&self) -> Milliseconds
+        ensures { result ≡ service_deadline self.now }
+    {
+        sooner(self.streams.deadline(), self.waiting.next_moment())
+            .min(earliest_socket(self.datagrams.as_slice()))
+            .min(earliest_listener(self.listeners.as_slice()))
     }
 
     /// Takes note of what ended a wait. Returns `true` if the service is to end.

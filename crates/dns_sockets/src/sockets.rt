@@ -21,15 +21,6 @@ const MAX_EVENTS: usize = 512;
 /// How often a port is drawn until it is free for datagrams and for connections.
 const MAX_DRAWS: u32 = 64;
 
-/// What ends the loop of a service, besides a signal.
-#[derive(Clone, Copy, Debug, PartialEq, Eq)]
-pub enum Until {
-    /// Nothing.
-    Signal,
-    /// The end of standard input, which is at its end if it is a file.
-    InputEnds,
-}
-
 /// The sockets at which requests arrive, the clock and standard input.
 pub struct SocketWorld<'a, R: Net + Clock + Input> {
     rt: &'a R,

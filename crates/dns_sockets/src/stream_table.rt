@@ -3,6 +3,7 @@
 ghost use Rattle.std.specs.Prelude.{◌≡◌, ◌++◌, [], ◌∷◌, true, false, IfSome, None, Some, map, slice_get, slice_set};
 ghost use Rattle.std.specs.List.{AllByRecursion};
 ghost use Rattle.dns_sockets.specs.Events.{Performs};
+ghost use Rattle.dns_sockets.specs.Deadlines.{earliest, slot_deadline};
 ghost use Rattle.dns_sockets.specs.Connections.{AreFollowed, AreFollowedAside, AreKept};
 ghost use Rattle.dns_sockets.specs.Trace.{At, IsAside, IsAsideEvent, Traces};
 ghost use Rattle.dns_sockets.specs.World as events;
@@ -250,14 +251,31 @@ impl StreamTable {
     }
 
     /// Returns when a connection next has something to do without its peer.
-    pub(crate) fn deadline(&self) -> Milliseconds {
-        let mut least = Milliseconds::MAX;
-        for slot in self.slots.as_slice() {
-            if let Some(stream) = slot {
-                least = least.min(stream.deadline());
-            }
-        }
-        least
+    pub(crate) fn deadline(&self) -> Milliseconds
+        ensures { result ≡ earliest slot_deadline self.now.slots.items }
+    {
+        earliest_slot(self.slots.as_slice())
+    }
+}
+
+/// Returns the earliest moment at which one of some connections has something to do without its peer.
+fn earliest_slot(slots: &[Option<Stream>]) -> Milliseconds
+    ensures { result ≡ earliest slot_deadline slots.now }
+{
+    let mut least = Milliseconds::MAX;
+    for slot in slots {
+        least = least.min(slot_deadline(slot));
+    }
+    least
+}
+
+/// Returns when a connection has something to do without its peer, if there is one.
+fn slot_deadline(slot: &Option<Stream>) -> Milliseconds
+    ensures { result ≡ slot_deadline slot.now }
+{
+    match slot {
+        Some(stream) => stream.deadline(),
+        None => Milliseconds::MAX,
     }
 }
 

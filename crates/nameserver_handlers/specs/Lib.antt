@@ -1,3 +1,5 @@
 pub mod Transferring
 pub mod Logged
 pub mod Durable
+pub mod History
+pub mod DurableHistory

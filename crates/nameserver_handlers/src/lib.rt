@@ -8,7 +8,8 @@
 //! - `replacement`, `compaction`: the zone with its updates takes the place of the zone file, at once or in steps; `text_file`: that file;
 //! - `policy`: keys and grants; `unmatched`: rules and grants for names that no zone has;
 //! - `host`: memory, the time, random bytes and standard error; `clock`: the time of day; `request_log`: the log;
-//! - `replay`: the requests of a script.
+//! - `replay`: the requests of a script;
+//! - `laws`: theorems about what the handlers do.
 #![tactic(auto)]
 
 mod clock;
@@ -16,6 +17,7 @@ mod compaction;
 mod durable_handler;
 mod handler;
 mod host;
+pub mod laws;
 mod notices;
 mod policy;
 mod recording;

@@ -13,6 +13,8 @@ returns-in_err-delivery-clause-zones c = record {
   coverage = coverage_of c.args.self.now.updaters c.args.address c.contains.result c.contains.ensures.v4 c.contains.ensures.mapped c.contains.ensures.v6;
   leaves = subst (λ (u : Updates). LeavesZones c.args.self.now.zones u c.args.request.now c.respond.new.server) c.updates_of.ensures
       (of_forgetful c.args.self.now.zones _ c.args.request.now _ (left_by_error _ c.args.request.now _ c.respond.new.server refl c.in_err-delivery.ensures.server));
+  limit_kept = refl;
+  updaters_kept = refl;
 }
 
 pub returns-in_err-delivery-2-clause-zones : goal.returns-in_err-delivery-2-clause-zones
@@ -21,6 +23,8 @@ returns-in_err-delivery-2-clause-zones c = record {
   coverage = coverage_of c.args.self.now.updaters c.args.address c.contains.result c.contains.ensures.v4 c.contains.ensures.mapped c.contains.ensures.v6;
   leaves = subst (λ (u : Updates). LeavesZones c.args.self.now.zones u c.args.request.now c.respond.new.server) c.updates_of.ensures
       (of_forgetful c.args.self.now.zones _ c.args.request.now _ (left_by_reply _ _ c.args.request.now c.args.transport _ _ _ c.respond.new.server _ refl c.in_ok-delivery.ensures.ok));
+  limit_kept = refl;
+  updaters_kept = refl;
 }
 
 pub returns-clause-zones : goal.returns-clause-zones
@@ -29,6 +33,8 @@ returns-clause-zones c = record {
   coverage = coverage_of c.args.self.now.updaters c.args.address c.contains.result c.contains.ensures.v4 c.contains.ensures.mapped c.contains.ensures.v6;
   leaves = subst (λ (u : Updates). LeavesZones c.args.self.now.zones u c.args.request.now c.respond.new.server) c.updates_of.ensures
       (of_forgetful c.args.self.now.zones _ c.args.request.now _ (left_by_reply _ _ c.args.request.now c.args.transport _ _ _ c.respond.new.server _ refl c.in_ok-delivery.ensures.ok));
+  limit_kept = refl;
+  updaters_kept = refl;
 }
 
 pub returns-clause-ok : goal.returns-clause-ok

@@ -3,7 +3,7 @@ use Rattle.dns_sockets.proofs.service.Service.turn.Goals as goal
 
 pub returns-in_err-wait : goal.returns-in_err-wait
 returns-in_err-wait g c =
-    serves_quiet g.W.World.performs g.H.Handler.steps c.args.world.now c.wait.new.world c.args.handler.now c.args.self.now.waiting.items c.args.self.now.streams.slots.items c.wait.ensures
+    serves_quiet g.W.World.performs g.H.Handler.steps c.args.world.now c.wait.new.world c.args.handler.now c.args.self.now.waiting.items c.args.self.now.streams.slots.items c.wait.ensures.quiet
 
 pub returns-then-note_all : goal.returns-then-note_all
 returns-then-note_all g c =
@@ -15,7 +15,7 @@ returns-then-note_all g c =
     let at_notes = serves_waiting performs steps c.args.world.now c.note_all.new.world c.args.handler.now c.args.handler.now start.items start noted.waiting streams noted.streams.slots.items
     (serves_kept performs steps c.args.world.now c.note_all.new.world c.args.handler.now c.args.handler.now start.items start.items streams streams noted.streams.slots.items
     (serves_then performs steps c.args.world.now c.wait.new.world c.note_all.new.world c.args.handler.now c.args.handler.now c.args.handler.now start.items start.items start.items streams streams streams
-    (serves_quiet performs steps c.args.world.now c.wait.new.world c.args.handler.now start.items streams c.wait.ensures)
+    (serves_quiet performs steps c.args.world.now c.wait.new.world c.args.handler.now start.items streams c.wait.ensures.quiet)
     (serves_quiet performs steps c.wait.new.world c.note_all.new.world c.args.handler.now start.items streams c.note_all.ensures.world))
     c.note_all.ensures.streams) c.note_all.ensures.waiting in
     at_notes
@@ -30,7 +30,7 @@ returns-in_err-serve g c =
     let at_notes = serves_waiting performs steps c.args.world.now c.note_all.new.world c.args.handler.now c.args.handler.now start.items start noted.waiting streams noted.streams.slots.items
     (serves_kept performs steps c.args.world.now c.note_all.new.world c.args.handler.now c.args.handler.now start.items start.items streams streams noted.streams.slots.items
     (serves_then performs steps c.args.world.now c.wait.new.world c.note_all.new.world c.args.handler.now c.args.handler.now c.args.handler.now start.items start.items start.items streams streams streams
-    (serves_quiet performs steps c.args.world.now c.wait.new.world c.args.handler.now start.items streams c.wait.ensures)
+    (serves_quiet performs steps c.args.world.now c.wait.new.world c.args.handler.now start.items streams c.wait.ensures.quiet)
     (serves_quiet performs steps c.wait.new.world c.note_all.new.world c.args.handler.now start.items streams c.note_all.ensures.world))
     c.note_all.ensures.streams) c.note_all.ensures.waiting in
     serves_then performs steps c.args.world.now c.note_all.new.world c.serve.new.world c.args.handler.now c.args.handler.now c.serve.new.handler start.items noted.waiting.items c.serve.new.self.waiting.items
@@ -46,7 +46,7 @@ returns g c =
     let at_notes = serves_waiting performs steps c.args.world.now c.note_all.new.world c.args.handler.now c.args.handler.now start.items start noted.waiting streams noted.streams.slots.items
     (serves_kept performs steps c.args.world.now c.note_all.new.world c.args.handler.now c.args.handler.now start.items start.items streams streams noted.streams.slots.items
     (serves_then performs steps c.args.world.now c.wait.new.world c.note_all.new.world c.args.handler.now c.args.handler.now c.args.handler.now start.items start.items start.items streams streams streams
-    (serves_quiet performs steps c.args.world.now c.wait.new.world c.args.handler.now start.items streams c.wait.ensures)
+    (serves_quiet performs steps c.args.world.now c.wait.new.world c.args.handler.now start.items streams c.wait.ensures.quiet)
     (serves_quiet performs steps c.wait.new.world c.note_all.new.world c.args.handler.now start.items streams c.note_all.ensures.world))
     c.note_all.ensures.streams) c.note_all.ensures.waiting in
     serves_then performs steps c.args.world.now c.note_all.new.world c.serve.new.world c.args.handler.now c.args.handler.now c.serve.new.handler start.items noted.waiting.items c.serve.new.self.waiting.items
