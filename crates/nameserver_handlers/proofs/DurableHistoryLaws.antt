@@ -1,5 +1,5 @@
 -- What a server whose updates outlast a crash sends, one request after another.
-use Rattle.std.proofs.Common.{◌≡◌, ◌∙◌, ℕ, true, List, [], ◌∷◌, ◌++◌, Option, Some, None, refl, sym, ap, subst}
+use Rattle.std.proofs.Common.{◌≡◌, ◌∙◌, ℕ, true, List, [], ◌∷◌, ◌++◌, Some, None, refl, sym, ap, subst}
 use Rattle.std.specs.declared.net.socket_addr.SocketAddr.{SocketAddr}
 use Rattle.dns_faults.specs.declared.delivery.Delivery.{Delivery}
 use Rattle.dns_journal.specs.Event.{Event}
@@ -7,7 +7,7 @@ use Rattle.dns_sockets.specs.Handler.{HandlerEvent, RequestContent, Handled, Not
 use Rattle.dns_sockets.specs.Ledger.{Earns}
 use Rattle.dns_sockets.specs.Sent.{IsGiven, IsHandled}
 use Rattle.dns_sockets.specs.Sent.IsGiven.{as_notice, as_reply}
-use Rattle.dns_sockets.specs.Trace.{Act, At, By, Leads, Origin, Socket}
+use Rattle.dns_sockets.specs.Trace.{Act, At, By, Leads, Socket}
 use Rattle.dns_sockets.specs.World.{Sent, WorldEvent}
 use Rattle.dns_sockets.specs.declared.datagrams.WaitingReply.{WaitingReply}
 use Rattle.dns_sockets.specs.schedule.Schedule.{Waiting}
@@ -55,7 +55,7 @@ module _ {T : Type 0} (does : T → Event → T → Type 0) where
         → AreServedTogether does (view h) handled.requests handled.deliveries
     of_handled w new h after acts socket r d handled leads =
         let parts = split performs By_view w new h after handled.before (By (Socket socket) (Handled handled.requests (Some handled.deliveries)) ∷ handled.rest)
-            (subst (λ (all : List Act). Leads performs By_view w h all new after) handled.acts_are leads) in
+        (subst (λ (all : List Act). Leads performs By_view w h all new after) handled.acts_are leads) in
         record {
           current = view parts.1;
           next = view parts.2.1.0;

@@ -1,5 +1,5 @@
 -- Two requests that arrive together at a server whose updates outlast a crash, and what it replies.
-use Rattle.std.proofs.Common.{Bool, true, false, ℕ, List, [], ◌∷◌, ◌++◌, Some, ◌≡◌, refl}
+use Rattle.std.proofs.Common.{true, false, ℕ, [], ◌∷◌, ◌++◌, Some, ◌≡◌, refl}
 use Rattle.std.specs.Global.{Vec}
 use Rattle.std.specs.declared.net.socket_addr.SocketAddr.{SocketAddr}
 use Rattle.dns_journal.specs.Event.{Event}

@@ -3,46 +3,44 @@ use Rattle.std.proofs.Common.{◌≡◌, ◌∙◌, ◌⊎◌, inl, inr, ℕ, ze
 use Rattle.std.proofs.lemmas.List.{set-get_or}
 use Rattle.std.proofs.lemmas.Option.{get_or_from_slice_get}
 use Rattle.std.specs.Prelude.{slice_get, slice_set}
-use Rattle.std.specs.Global.{Vec}
 use Rattle.std.specs.Net.Socket.{socket_ip}
 use Rattle.std.specs.declared.net.socket_addr.SocketAddr.{SocketAddr}
 use Rattle.dns_authority.specs.declared.service.answering.Answering.{Answering}
 use Rattle.dns_authority.specs.declared.service.answering.Answering.TheVariants.{Plain, Whole}
-use Rattle.dns_authority.specs.service.Answering.{zones_by_op, zones_served, zones_updated}
+use Rattle.dns_authority.specs.service.Answering.{zones_by_op, zones_served}
 use Rattle.dns_faults.specs.declared.delivery.Delivery.{Delivery}
 use Rattle.dns_messages.specs.declared.message.Message.{Message}
 use Rattle.dns_messages.specs.declared.op_code.OpCode.{OpCode}
 use Rattle.dns_messages.specs.declared.op_code.OpCode.TheVariants as ops
 use Rattle.dns_messages.specs.declared.query.Query.{Query}
 use Rattle.dns_names.specs.declared.reverse.AddrPrefix.{AddrPrefix}
-use Rattle.dns_nameserver.specs.NameServer.{IsCoverageOf, IsLeftByRequest, LeavesZones, LeavesZonesFrom, updates_of}
+use Rattle.dns_nameserver.specs.NameServer.{IsCoverageOf, IsLeftByRequest, LeavesZonesFrom, updates_of}
 use Rattle.dns_nameserver.specs.declared.name_server.NameServer.{NameServer}
-use Rattle.dns_server.specs.Server.{route, route_by_code, route_by_name, zones_after, zones_by, zones_with}
-use Rattle.dns_server.specs.declared.server.route.Route.{Route}
-use Rattle.dns_server.specs.declared.server.route.Route.TheVariants as by
+use Rattle.dns_server.specs.Server.{route_by_code, route_by_name, route_to, zones_by, zones_with}
+use Rattle.dns_server.specs.Zones.{closest}
 use Rattle.dns_server.specs.declared.updates.Updates.{Updates}
 use Rattle.dns_server.specs.declared.updates.Updates.TheVariants as may
 use Rattle.dns_sockets.specs.Handler.{HandlerEvent, RequestContent, Handled, Noticed, Took, Transferred}
 use Rattle.dns_sockets.specs.Ledger.{Earns}
 use Rattle.dns_sockets.specs.Sent.{IsGiven, IsHandled}
 use Rattle.dns_sockets.specs.Sent.IsGiven.{as_notice, as_reply}
-use Rattle.dns_sockets.specs.Trace.{Act, At, By, Leads, Origin, Socket}
+use Rattle.dns_sockets.specs.Trace.{Act, At, By, Leads, Socket}
 use Rattle.dns_sockets.specs.World.{Sent, WorldEvent}
 use Rattle.dns_sockets.specs.declared.datagrams.WaitingReply.{WaitingReply}
 use Rattle.dns_sockets.specs.schedule.Schedule.{Waiting}
 use Rattle.dns_sockets.proofs.SentLaws.{given}
 use Rattle.dns_zone.specs.Rows.{ZoneContent}
-use Rattle.dns_zone.specs.Serving.{zone_after, zone_by_op}
+use Rattle.dns_zone.specs.Serving.{zone_by_op}
 use Rattle.nameserver_handlers.proofs.ActLaws.{split}
 use Rattle.nameserver_handlers.specs.History.{IsAnswer, IsAnsweredAfter, MayUpdate, NoneUpdates, requests_in, requests_of}
 use Rattle.nameserver_handlers.specs.History.IsAnswer.{as_notification, to_request}
-use Rattle.nameserver_handlers.specs.Logged.{Answers, AnswersAll, LeavesAll, LeavesBy, Serving, Steps, settled}
+use Rattle.nameserver_handlers.specs.Logged.{Answers, AnswersAll, LeavesAll, Serving, Steps, settled}
 
 -- ---- one after another
 
 leaves_both : (old mid new : Serving) (rs more : List RequestContent) → LeavesAll old rs mid → LeavesAll mid more new → LeavesAll old (rs ++ more) new
 leaves_both old mid new [] more first next = subst (λ (s : Serving). LeavesAll s more new) first next
-leaves_both old mid new (r ∷ rs) more first next = (first.0, (first.1.0, leaves_both first.1.0 mid new rs more first.1.1 next))
+leaves_both old mid new (r ∷ rs) more first next = (first.0, (first.1.0, leaves_both first.0 mid new rs more first.1.1 next))
 
 answers_leave : (old new : Serving) (rs : List RequestContent) (ds : List Delivery) → AnswersAll old rs ds new → LeavesAll old rs new
 answers_leave old new [] ds all = all.1
@@ -135,9 +133,22 @@ same_with zones place m None is other = refl
 same_with zones place m (Some zone) is other =
     ap (λ (z : ZoneContent). slice_set zones place z) (kept_zone zone m m.metadata.op_code other ∙ sym (get_or_from_slice_get zones place zone zone is)) ∙ set-get_or zones place zone
 
-same_by : (zones : List ZoneContent) (m : Message) (r : Route) → (m.metadata.op_code ≡ ops.Update → ⊥) → zones_by zones m r ≡ zones
-same_by zones m (by.Zone place) other = same_with zones place m (slice_get zones place) refl other
-same_by zones m (by.Code code) other = refl
+same_to : (zones : List ZoneContent) (m : Message) (place : Option ℕ) → (m.metadata.op_code ≡ ops.Update → ⊥) → zones_by zones m (route_to place) ≡ zones
+same_to zones m None other = refl
+same_to zones m (Some place) other = same_with zones place m (slice_get zones place) refl other
+
+same_by_name : (zones : List ZoneContent) (m : Message) (queries : List Query) → (m.metadata.op_code ≡ ops.Update → ⊥) → zones_by zones m (route_by_name zones queries) ≡ zones
+same_by_name zones m [] other = refl
+same_by_name zones m (q ∷ []) other = same_to zones m (closest zones q.name.labels) other
+same_by_name zones m (q ∷ r ∷ more) other = refl
+
+same_by : (zones : List ZoneContent) (m : Message) (updates : Updates) (queries : List Query) (op : OpCode) → (m.metadata.op_code ≡ ops.Update → ⊥) → (op ≡ ops.Update → ⊥)
+    → zones_by zones m (route_by_code updates zones queries op) ≡ zones
+same_by zones m updates queries ops.Query other differs = same_by_name zones m queries other
+same_by zones m updates queries ops.Status other differs = refl
+same_by zones m updates queries ops.Notify other differs = refl
+same_by zones m updates queries ops.Update other differs = absurd (differs refl)
+same_by zones m updates queries (ops.Unknown number) other differs = refl
 
 -- an update without permission leads to no zone
 refused_route : (zones : List ZoneContent) (m : Message) (queries : List Query) (op : OpCode) → op ≡ ops.Update → zones_by zones m (route_by_code may.Refused zones queries op) ≡ zones
@@ -149,7 +160,7 @@ refused_route zones m queries (ops.Unknown number) is = absurd (cc is)
 
 module _ (zones : List ZoneContent) (m : Message) where
   other_kept : (answering : Answering) (updates : Updates) → (m.metadata.op_code ≡ ops.Update → ⊥) → zones_served answering updates zones m ≡ zones
-  other_kept Plain updates other = same_by zones m (route updates zones m) other
+  other_kept Plain updates other = same_by zones m updates m.queries m.metadata.op_code other other
   other_kept (Whole any serials) updates other = by_op m.metadata.op_code other
     where
       by_op : (op : OpCode) → (op ≡ ops.Update → ⊥) → zones_by_op serials updates op zones m ≡ zones
@@ -193,7 +204,7 @@ module _ (old : Serving) (r : RequestContent) (may_not : MayUpdate old.server.up
 
   left_kept : (new : Serving) → (new.server ≡ old.server) ⊎ ((mid : NameServer) × (LeavesZonesFrom old.server (socket_ip r.peer) r.bytes mid × (new.server ≡ settled mid))) → IsKept old new
   left_kept new (inl same) = record { zones = ap (λ (s : NameServer). s.zones.server) same; updaters = ap (λ (s : NameServer). s.updaters) same }
-  left_kept new (inr (mid, from, is)) = record {
+  left_kept new (inr (mid, (from, is))) = record {
     zones = ap (λ (s : NameServer). s.zones.server) is ∙ zones_left mid from.covered from.coverage from.leaves.left;
     updaters = ap (λ (s : NameServer). s.updaters) is ∙ from.updaters_kept;
   }

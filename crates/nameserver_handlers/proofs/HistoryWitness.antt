@@ -1,5 +1,5 @@
 -- Two requests that arrive at a server together, and what it answers.
-use Rattle.std.proofs.Common.{◌≡◌, ◌⊎◌, Bool, true, false, ℕ, List, [], ◌∷◌, ◌++◌, map, Some, None, inl, refl, sym, subst}
+use Rattle.std.proofs.Common.{◌≡◌, true, false, ℕ, List, [], ◌∷◌, ◌++◌, map, Some, refl, sym, subst}
 use Rattle.std.specs.Prelude.{⊤}
 use Rattle.std.specs.Global.{Vec}
 use Rattle.std.specs.Net.Socket.{socket_ip}
@@ -11,13 +11,12 @@ use Rattle.dns_names.specs.declared.reverse.AddrPrefix.{AddrPrefix}
 use Rattle.dns_nameserver.specs.NameServer.{IsCoverageOf}
 use Rattle.dns_sockets.proofs.EarnsWitness as run
 use Rattle.dns_sockets.specs.Datagrams.{content_at}
-use Rattle.dns_sockets.specs.Handler.{HandlerEvent, Handled, RequestContent}
+use Rattle.dns_sockets.specs.Handler.{Handled, RequestContent}
 use Rattle.dns_sockets.specs.Notices.{is_response}
 use Rattle.dns_sockets.specs.Trace.{Act, At, By, Leads, Socket}
 use Rattle.dns_sockets.specs.World.{Sent, WorldEvent}
 use Rattle.nameserver_handlers.proofs.HistoryLaws.{acts_leave, sent_is_answer, zones_stay}
-use Rattle.nameserver_handlers.specs.History.{IsAnswer, MayUpdate, NoneUpdates, requests_in}
-use Rattle.nameserver_handlers.specs.History.IsAnswer.{as_notification, to_request}
+use Rattle.nameserver_handlers.specs.History.{IsAnswer, MayUpdate, NoneUpdates}
 use Rattle.nameserver_handlers.specs.Logged.{AnswersAll, LeavesAll, Serving, Steps}
 
 -- any world

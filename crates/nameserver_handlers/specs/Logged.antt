@@ -1,5 +1,5 @@
 -- What a server answers that makes faults.
-use Rattle.std.specs.Prelude.{◌≡◌, ◌⊎◌, ⊤, Bool, true, false, List, [], ◌∷◌, ℕ, Option, Some, None}
+use Rattle.std.specs.Prelude.{◌≡◌, ◌⊎◌, Bool, List, [], ◌∷◌, ℕ, Option, Some, None}
 use Rattle.std.specs.Net.Socket.{socket_ip}
 use Rattle.dns_faults.specs.Delivery.{plain_sending, sending}
 use Rattle.dns_faults.specs.declared.delivery.Delivery.{Delivery}

@@ -1,5 +1,4 @@
 use Rattle.nameserver_handlers.specs.DurableHistory.{keeping_of}
-use Rattle.nameserver_handlers.proofs.DurableHistoryWitness.{answered}
 use Rattle.nameserver_handlers.proofs.DurableHistoryLaws.{sent_is_answer}
 use Rattle.nameserver_handlers.proofs.laws.every_datagram_is_a_durable_answer.Goals as goal
 

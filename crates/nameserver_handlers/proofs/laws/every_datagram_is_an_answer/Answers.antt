@@ -1,5 +1,4 @@
 use Rattle.nameserver_handlers.specs.History.{serving_of}
-use Rattle.nameserver_handlers.proofs.HistoryWitness.{answered}
 use Rattle.nameserver_handlers.proofs.HistoryLaws.{sent_is_answer}
 use Rattle.nameserver_handlers.proofs.laws.every_datagram_is_an_answer.Goals as goal
 

@@ -1,5 +1,4 @@
 use Rattle.nameserver_handlers.specs.History.{serving_of}
-use Rattle.nameserver_handlers.proofs.HistoryWitness.{left}
 use Rattle.nameserver_handlers.proofs.HistoryLaws.{acts_leave}
 use Rattle.nameserver_handlers.proofs.laws.servers_change_by_their_requests.Goals as goal
 

@@ -1,4 +1,3 @@
-use Rattle.nameserver_handlers.proofs.HistoryWitness.{zones_as_before}
 use Rattle.nameserver_handlers.proofs.HistoryLaws.{zones_stay}
 use Rattle.nameserver_handlers.proofs.laws.zones_change_by_permitted_updates.Goals as goal
 
