@@ -3,3 +3,7 @@ pub mod Logged
 pub mod Durable
 pub mod History
 pub mod DurableHistory
+pub mod Grants
+pub mod Clock
+pub mod Keeping
+pub mod Compaction

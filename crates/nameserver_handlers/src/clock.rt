@@ -1,5 +1,7 @@
 //! The time of day.
 
+ghost use Rattle.nameserver_handlers.specs.Clock.{Shows};
+
 use dns_sockets::Milliseconds;
 use std::time::Clock;
 
@@ -14,7 +16,9 @@ pub enum WallClock {
 
 impl WallClock {
     /// Returns the seconds since 1970 at the moment of a request. Without a clock they are 0, so that no signature is in time.
-    pub fn seconds<R: Clock>(self, rt: &R, moment: Milliseconds) -> u64 {
+    pub fn seconds<R: Clock>(self, rt: &R, moment: Milliseconds) -> u64
+        ensures { Shows self moment result }
+    {
         match self {
             WallClock::System => rt.since_1970().map_or(0, |time| time.as_secs()),
             WallClock::From(start) => start.saturating_add(moment / 1_000),

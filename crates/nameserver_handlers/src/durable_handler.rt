@@ -1,9 +1,10 @@
 //! What the program does with requests, if there are keys or a journal.
 
-ghost use Rattle.std.specs.Prelude.{◌≡◌, IfOk, OnErr, OnOk, Result, length, map, option_map};
+ghost use Rattle.std.specs.Prelude.{◌≡◌, IfOk, OnErr, OnOk, Result, length, map, not, option_map};
 ghost use Rattle.dns_durable.specs.Changes.{reply_bytes, reply_change};
 ghost use Rattle.dns_sockets.specs.Handler.{Handled, deliveries_if, message_bytes, request_content};
 ghost use Rattle.nameserver_handlers.specs.Durable.{AreDelivered, AreIncoming, AreTerms, IsDelivered, IsTerms, Responded, Steps, content_with, or_else, recorded_bytes, recorded_if};
+ghost use Rattle.nameserver_handlers.specs.Compaction.{is_idle, is_lasting};
 ghost use Rattle.nameserver_handlers.specs.Transferring.{TransferByDatagram};
 ghost use Rattle.dns_nameserver.specs.NameServer.{reply_transport};
 
@@ -393,7 +394,9 @@ impl<R: Host, S: TextFile, W: Write> DurableHandler<'_, R, S, W> {
     }
 
     /// Returns `true` while a compaction is under way.
-    fn is_compacting(&self) -> bool {
+    fn is_compacting(&self) -> bool
+        ensures { result ≡ not (is_idle self.now.server.draft) }
+    {
         !matches!(self.server.draft, Progress::Idle)
     }
 
@@ -503,7 +506,9 @@ fn incoming_of<'g>(
 }
 
 /// Returns `true` for a refusal that comes again.
-fn is_lasting(error: &CompactError) -> bool {
+fn is_lasting(error: &CompactError) -> bool
+    ensures { result ≡ is_lasting error.now }
+{
     match error {
         CompactError::Zones | CompactError::Text => true,
         CompactError::Journal(_) | CompactError::Memory => false,

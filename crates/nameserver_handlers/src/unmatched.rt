@@ -1,5 +1,8 @@
 //! What is given at the start for names that no zone has: rules of faults, and grants.
 
+ghost use Rattle.std.specs.Prelude.{◌≡◌};
+ghost use Rattle.nameserver_handlers.specs.Grants.{may_match, overlap};
+
 use dns_faults::rules::{FaultTable, NamePattern, Rule};
 use dns_names::Name;
 use dns_zone::Zone;
@@ -16,7 +19,9 @@ pub fn tell_unmatched<R: Eprint>(rt: &R, path: &str, table: &FaultTable, zones: 
 }
 
 /// Returns `true` if a pattern matches a name at or below an origin.
-fn may_match(names: &NamePattern, origin: &Name) -> bool {
+fn may_match(names: &NamePattern, origin: &Name) -> bool
+    ensures { result ≡ may_match names.now origin.now }
+{
     match names {
         NamePattern::Any => true,
         NamePattern::Exactly(name) => origin.zone_of(name),
@@ -25,7 +30,9 @@ fn may_match(names: &NamePattern, origin: &Name) -> bool {
 }
 
 /// Returns `true` if a subtree and the zone of an origin have a name in common.
-pub(crate) fn overlaps(subtree: &Name, origin: &Name) -> bool {
+pub(crate) fn overlaps(subtree: &Name, origin: &Name) -> bool
+    ensures { result ≡ overlap subtree.now origin.now }
+{
     origin.zone_of(subtree) || subtree.zone_of(origin)
 }
 
