@@ -47,6 +47,32 @@ def test_data(kind, text):
     assert messages.type_number(kind) == dns.rdatatype.from_text(kind)
 
 
+def test_longest():
+    """The longest label, name, string and TTL are those of RFC 1035 section 2.3.4 and RFC 2181 section 8."""
+    labels = [it * 63 for it in "abc"]
+    longest = ".".join([*labels, "d" * 61])
+    assert messages.encode_name(longest) == dns.name.from_text(longest).to_wire()
+    assert messages.encode_string("x" * 255) == b"\xff" + b"x" * 255
+    assert Update(f"append a {(1 << 31) - 1} TXT x", ZONE).changes
+    for call in (
+        lambda: messages.encode_name(longest + "d"),
+        lambda: messages.encode_name("a" * 64),
+        lambda: messages.encode_string("x" * 256),
+        lambda: Update(f"append a {1 << 31} TXT x", ZONE),
+    ):
+        with pytest.raises(ValueError):
+            call()
+
+
+def test_escapes():
+    """A dot that is escaped ends no label and no name, as for dnspython."""
+    origin = dns.name.from_text(ZONE)
+    for text in ("a\\.b", "a\\.", "a\\046", "\\@", "a\\\\.", "@", "b.Example.COM", "bexample.com"):
+        whole = messages.whole_name(text, ZONE)
+        wanted = text + "." if text.lower().endswith(".example.com") else text
+        assert messages.encode_name(whole) == dns.name.from_text(wanted, origin).to_wire(), text
+
+
 def test_data_without_a_form():
     """Data of other types is written in the form of RFC 3597 section 5, and so is data that is not of its type."""
     loc = dns.rdata.from_text("IN", "LOC", "52 22 23 N 4 53 32 E 0m").to_wire()
@@ -169,7 +195,9 @@ def test_signature(algorithm):
         with pytest.raises(MessageError, match="wrong"):
             key.verify(wrong, mac)
     with pytest.raises(MessageError, match="wrong"):
-        key.verify(signed, mac[:-1] + b"\0")
+        key.verify(signed, mac[:-1] + bytes([mac[-1] ^ 1]))
+    with pytest.raises(MessageError, match="wrong"):
+        Key("you.example.", secret, algorithm).verify(signed, mac)
     with pytest.raises(MessageError, match="not signed"):
         key.verify(dns.message.make_response(dns.message.from_wire(Update("delete-name a", ZONE).to_wire(7))).to_wire(), mac)
 
@@ -205,6 +233,9 @@ def test_faulty_messages():
     """Bytes that are no message are an error of their own."""
     good = dns.message.make_response(dns.message.make_query("a.", "A")).to_wire()
     assert messages.decode_message(good).answers == []
-    for wire in (b"", good[:12], good[:11], good[:7] + b"\1" + good[8:], good[:12] + b"\xc0\x0c" + good[12:]):
+    answer = dns.message.from_text("id 1\nflags QR\n;QUESTION\na. IN A\n;ANSWER\na. 60 IN A 192.0.2.1").to_wire()
+    assert [it.data for it in messages.decode_message(answer).answers] == ["192.0.2.1"]
+    cut = [b"", good[:12], good[:11], answer[:-1], answer[:-4], answer[:-12]]
+    for wire in [*cut, good[:7] + b"\1" + good[8:], good[:12] + b"\xc0\x0c" + good[12:]]:
         with pytest.raises(MessageError):
             messages.decode_message(wire)

@@ -99,6 +99,27 @@ def test_update_without_reply(nameserver):
     assert server.unused_faults() == []
 
 
+def test_half_a_reply(nameserver):
+    """The connection ends within the reply to an update, which was made."""
+    server = nameserver(ZONE, faults="example.com. SOA close 10 times 1")
+    with pytest.raises(NameServerError, match="no reply to the update .*: the connection ended before the reply"):
+        server.update("delete-name www")
+    assert server.records("www.example.com", "A") == []
+
+
+def test_late_update(nameserver, tmp_path, monkeypatch):
+    """The server's clock and that of the signer are apart."""
+    file = tmp_path / "me.key"
+    file.write_text(KEY)
+    file.chmod(0o600)
+    server = nameserver(ZONE, options=["--key", file, "--grant", "me. example.com."])
+    now = time.time()
+    monkeypatch.setattr(time, "time", lambda: now - 1000)
+    with pytest.raises(UpdateError, match="NOTAUTH \\(BADTIME\\)"):
+        server.update("delete-name www", key=file)
+    assert server.records("www.example.com", "A") == ["10.0.0.1"]
+
+
 def test_signed_update(nameserver, tmp_path):
     """A key may update what its grant says, as by nsupdate, and others may not."""
     file = tmp_path / "me.key"

@@ -111,7 +111,7 @@ def words_of(text):
 
 def whole_name(text, zone=None):
     """A name with a dot at its end: the zone, if there is one, completes a name that neither has one nor is in the zone."""
-    if zone is None or text.endswith(".") and not text.endswith("\\."):
+    if zone is None or re.fullmatch(rf"\.|(?:{LABEL}\.)+", text):
         return text
     if text == "@":
         return zone
@@ -510,7 +510,8 @@ class Key:
         wanted = self.mac(bare, signed, struct.pack(">H", len(mac)) + mac)
         if (signed.key, signed.algorithm) != (self.name, self.algorithm) or not hmac.compare_digest(wanted, signed.mac):
             raise MessageError("a reply whose signature is wrong")
-        if error != "BADTIME" and abs(time.time() - signed.moment) > signed.fudge:
+        # After BADTIME, the moment is that of the request (RFC 8945 section 5.2.3).
+        if abs(time.time() - signed.moment) > signed.fudge:
             raise MessageError("a reply that was signed too early or too late")
         return error
 
