@@ -38,7 +38,7 @@ import time
 from pathlib import Path
 
 from nameserver_messages import CODES, Key, MessageError, Stream, Update
-from nameserver_messages import decode_message, is_in, labels_of, normal_data, transfer, type_number, with_lower_names
+from nameserver_messages import decode_message, is_in, labels_of, normal_data, transfer, type_name, type_number, with_lower_names
 
 # How long to wait for the server, in seconds. The front of a checkout compiles the program when it is first called.
 START_LIMIT = 10
@@ -309,7 +309,7 @@ class NameServer:
         They are transferred with their zone, so that no rule of the fault table is applied, and the log that a test sees has no request for
         them. Names in data are whole, as in `10 mail.example.com.`; data of a type that has no form here is `\\# LENGTH HEX`.
         """
-        type_number(type)
+        kind = type_name(type_number(type.upper()))
         zones = [it for it in self.origins() if is_in(name, it)]
         if not zones:
             raise NameServerError(f"no zone of the server has {name}")
@@ -318,7 +318,7 @@ class NameServer:
             found, code_name = transfer(stream, max(zones, key=lambda it: len(labels_of(it))))
         if found is None:
             raise NameServerError(f"the server answered {code_name} to a transfer, which `records` needs{self.complaint()}")
-        return sorted(it.data for it in found if it.type == type and labels_of(it.name) == labels_of(name))
+        return sorted(it.data for it in found if it.type == kind and labels_of(it.name) == labels_of(name))
 
     def wait_for_records(self, name, type, data=None, seconds=5):
         """Waits until the zone has these records at a name, and no others of the type, and returns their data.
@@ -327,10 +327,11 @@ class NameServer:
         some.
         """
         wanted = None if data is None else [data] if isinstance(data, str) else list(data)
-        compared = None if wanted is None else sorted(normal_data(type, it) for it in wanted)
+        kind = type_name(type_number(type.upper()))
+        compared = None if wanted is None else sorted(normal_data(kind, it) for it in wanted)
 
         def is_wanted(found):
-            return bool(found) if compared is None else sorted(with_lower_names(type, it) for it in found) == compared
+            return bool(found) if compared is None else sorted(with_lower_names(kind, it) for it in found) == compared
 
         found, is_there = self.poll(lambda: self.records(name, type), is_wanted, seconds)
         if not is_there:
