@@ -181,6 +181,14 @@ def test_records(nameserver):
         server.records("www.example.net", "A")
 
 
+def test_records_of_a_large_zone(nameserver):
+    """A transfer of several messages."""
+    names = [f"{'x' * 60}.h{number}" for number in range(2000)]
+    server = nameserver(ZONE + "".join(f"{name} AAAA 2001:db8::{at:x}\n" for at, name in enumerate(names, 1)))
+    for at in (1, 1000, 2000):
+        assert server.records(f"{names[at - 1]}.example.com", "AAAA") == [f"2001:db8::{at:x}"]
+
+
 def test_records_of_the_closest_zone(nameserver):
     server = nameserver([ZONE, ZONE.replace("example.com", "sub.example.com").replace("10.0.0.1", "10.0.0.2")])
     assert server.records("www.example.com", "A") == ["10.0.0.1"]
