@@ -236,6 +236,6 @@ def test_faulty_messages():
     answer = dns.message.from_text("id 1\nflags QR\n;QUESTION\na. IN A\n;ANSWER\na. 60 IN A 192.0.2.1").to_wire()
     assert [it.data for it in messages.decode_message(answer).answers] == ["192.0.2.1"]
     cut = [b"", good[:12], good[:11], answer[:-1], answer[:-4], answer[:-12]]
-    for wire in [*cut, good[:7] + b"\1" + good[8:], good[:12] + b"\xc0\x0c" + good[12:]]:
+    for wire in [*cut, good[:7] + b"\1" + good[8:], good[:12] + b"\xc0\x0c" + good[12:], good[:12] + b"\x41" + b"a" * 65 + good[14:]]:
         with pytest.raises(MessageError):
             messages.decode_message(wire)

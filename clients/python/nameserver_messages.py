@@ -203,6 +203,8 @@ def decode_name(message, at):
             if at >= limit:
                 raise MessageError("a name that points forward")
             limit = at
+        elif message[at] > 63:
+            raise MessageError("a label of an unknown kind")
         else:
             label = message[at + 1 : at + 1 + message[at]]
             labels.append("".join(escaped(it, '.\\"();@$ ') for it in label))
