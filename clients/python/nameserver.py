@@ -281,9 +281,10 @@ class NameServer:
             update add www.example.com. 60 A 10.0.0.2
             update delete www.example.com. TXT
 
-        or in those of `lookup --update`, whose names the zone completes: `create NAME TTL TYPE DATA`, if there is none of this name and
-        type; `append NAME TTL TYPE DATA`; `swap NAME TTL TYPE DATA -> DATA`, if there is no other; `delete-record NAME TYPE DATA`,
-        `delete-set NAME TYPE` or `delete-name NAME`. A line that is none of them is a `ValueError`.
+        or in those of `lookup --update`, where the zone completes names without a dot at their end that are not in it:
+        `create NAME TTL TYPE DATA`, if there is none of this name and type; `append NAME TTL TYPE DATA`;
+        `swap NAME TTL TYPE DATA -> DATA`, if there is no other; `delete-record NAME TYPE DATA`, `delete-set NAME TYPE` or
+        `delete-name NAME`. A line that is none of them is a `ValueError`.
 
         The zone is that of the first zone file unless it is given. `key` signs the update: it is a `Key`, the text of a key as
         `tsig-keygen` prints it, or the path of a file with one.
