@@ -58,6 +58,8 @@ class Compiler:
         self.run([copied / "bin" / "rt", "try", "--steps", "1", "--seconds", "1", "--"], crate)
         if not module.exists():
             raise CompileFault("the sources do not compile")
+        self.log.write(b"\nThe failure of clang above is meant: it kept the module, of which the program is made now.\n")
+        self.log.flush()
 
     def succeed(self, words):
         """Runs a command that must succeed."""

@@ -7,11 +7,16 @@ ESCAPE = re.compile(r"\\f[BIRP]|\\(.)")
 REQUEST = re.compile(r"^\.(?:B|I|BI|BR|IB|IR|RB|RI|SM)\s+")
 
 
-class Option:
-    """An option of a program: its name, what its argument is called (nothing if it has none), and what it is for."""
+BOLD = re.compile(r"^\.BR? (\S+)", re.MULTILINE)
+# The types that are looked up most often. Others have no completion.
+TYPES = "A AAAA ANY CAA CNAME DNAME DNSKEY DS HTTPS MX NAPTR NS PTR SOA SRV SSHFP SVCB TLSA TXT".split()
 
-    def __init__(self, name, argument, about):
-        self.name, self.argument, self.about = name, argument, about
+
+class Option:
+    """An option of a program: its name, what its argument is called (nothing if it has none), what it is for, and values to offer."""
+
+    def __init__(self, name, argument, about, values=()):
+        self.name, self.argument, self.about, self.values = name, argument, about, values
 
     def is_file(self):
         """Whether its argument is the path of a file."""
@@ -53,18 +58,27 @@ def options_of(page):
         tag = plain(lines[at + 1])
         for name in OPTION.findall(tag):
             argument = re.sub(r'["\s,]', "", tag.partition(name)[2])
-            found.append(Option(name, argument, first_sentence(lines[at + 2:])))
+            found.append(Option(name, argument, first_sentence(lines[at + 2:]), values_of(argument, lines[at + 2:])))
     return found
+
+
+def values_of(argument, lines):
+    """The values of an argument: types, or, of a strategy, the words in bold of the text that follows the tag."""
+    if argument == "TYPE":
+        return TYPES
+    text = "\n".join(lines).partition("\n.TP")[0]
+    return [plain(it) for it in BOLD.findall(text)] if argument == "STRATEGY" else []
 
 
 def bash(program, options):
     """The completion of a program for bash."""
     names = " ".join(it.name for it in options)
     files = "|".join(it.name for it in options if it.is_file())
-    others = "|".join(it.name for it in options if it.argument and not it.is_file())
+    others = "|".join(it.name for it in options if it.argument and not it.values and not it.is_file())
     cases = [f"        {names_}) {then} ;;" for names_, then in (
         (files, "COMPREPLY=($(compgen -f -- \"$word\")); return"),
         (others, "COMPREPLY=(); return"),
+        *((it.name, f"COMPREPLY=($(compgen -W \"{' '.join(it.values)}\" -- \"$word\")); return") for it in options if it.values),
     ) if names_]
     return "\n".join([
         f"# bash completion for {program}",
@@ -89,7 +103,8 @@ def zsh(program, options):
         about = option.about.replace("'", "").replace("[", "(").replace("]", ")").replace(":", "")
         argument = ""
         if option.argument:
-            argument = f":{option.argument.replace(':', ' ')}:{'_files' if option.is_file() else ' '}"
+            values = f"({' '.join(option.values)})" if option.values else "_files" if option.is_file() else " "
+            argument = f":{option.argument.replace(':', ' ')}:{values}"
         return f"    '*{option.name}[{about}]{argument}' \\"
     return "\n".join([f"#compdef {program}", "_arguments \\", *map(spec, options), "    '*:file:_files'", ""])
 
@@ -99,6 +114,7 @@ def fish(program, options):
     def line(option):
         about = option.about.replace("'", "")
         argument = "" if not option.argument else " -r -F" if option.is_file() else " -x"
+        argument += f" -a '{' '.join(option.values)}'" if option.values else ""
         return f"complete -c {program} -l {option.name[2:]}{argument} -d '{about}'"
     return "\n".join([f"# fish completion for {program}", *map(line, options), ""])
 

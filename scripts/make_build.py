@@ -8,6 +8,7 @@ process makes a build of a program at a time, and another waits for it. The stat
 import contextlib
 import ctypes
 import fcntl
+import math
 import os
 import shutil
 import signal
@@ -20,7 +21,7 @@ sys.dont_write_bytecode = True
 from compiler import CompileFault, Compiler
 from copies import copy_crates, copy_file, folder_for_a_while
 from crates import in_order, read_crates
-from processes import end_descendants, ending_together, exit_as_told
+from processes import end_descendants, ending_together, exit_as_told, processor_seconds
 from programs import CODE, is_program, kept_build
 
 ROOT = Path(__file__).resolve().parent.parent
@@ -28,6 +29,8 @@ ROOT = Path(__file__).resolve().parent.parent
 MOST = 4
 # How often a line says how long it takes so far, in seconds, unless a terminal shows the time.
 EACH = 30
+# About how much processor time a build takes, and from how much on the rest is estimated, in seconds.
+WORK, ENOUGH = 120, 5
 # The option of prctl(2) that has this process told to end when its parent does.
 PR_SET_PDEATHSIG = 1
 
@@ -51,11 +54,18 @@ class Progress:
     def show(self):
         """Says how long it takes so far."""
         if sys.stderr and sys.stderr.isatty():
-            sys.stderr.write(f"\r{self.name}: compiling, {self.clock()}")
+            sys.stderr.write(f"\r{self.name}: compiling, {self.clock()}{self.left()}\x1b[K")
             sys.stderr.flush()
         elif time.monotonic() - self.started - self.told >= EACH:
             self.told += EACH
-            self.tell(f"compiling, {self.clock()} so far")
+            self.tell(f"compiling, {self.clock()} so far{self.left()}")
+
+    def left(self):
+        """How long it will take, if the processors have as little time for it as so far."""
+        used, passed = processor_seconds(), time.monotonic() - self.started
+        if not ENOUGH <= used < WORK:
+            return ""
+        return f", about {math.ceil((WORK - used) * passed / used / 60)} min left"
 
     def erasing(self):
         """What erases the time from a terminal."""

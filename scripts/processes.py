@@ -134,12 +134,27 @@ def reap():
 def descendants():
     """The processes that this one started, and those that they started."""
     children = {}
-    for it in Path("/proc").glob("[0-9]*/stat"):
+    for it in Path("/proc").glob("[0-9]*"):
         with contextlib.suppress(OSError, ValueError):
-            # The name of the program is in parentheses, and may have any characters.
-            parent = int(it.read_text(errors="replace").rpartition(")")[2].split()[1])
-            children.setdefault(parent, []).append(int(it.parent.name))
+            children.setdefault(int(fields_of(it)[1]), []).append(int(it.name))
     found = [os.getpid()]
     for it in found:
         found += children.get(it, [])
     return found[1:]
+
+
+def fields_of(process):
+    """What the system says of a process, from its state on (proc(5)). `process` is its folder."""
+    # The name of the program is in parentheses, and may have any characters.
+    return Path(process, "stat").read_text(errors="replace").rpartition(")")[2].split()
+
+
+def processor_seconds():
+    """The processor time that all descendants of this process have taken so far, those that have ended included, in seconds."""
+    used = os.times()
+    ticks = 0
+    for it in descendants():
+        with contextlib.suppress(OSError, ValueError):
+            # User and system time, of the process and of its children that have ended.
+            ticks += sum(map(int, fields_of(Path("/proc", str(it)))[11:15]))
+    return used.children_user + used.children_system + ticks / os.sysconf("SC_CLK_TCK")

@@ -6,11 +6,38 @@ from pathlib import Path
 from svg import COLOURS, Picture
 
 ROOT = Path(__file__).resolve().parents[2]
-# The pictures: what the sizes are, and which operations they show.
+# The pictures: what the sizes are, and which operations they show, in words.
 PLOTS = {
-    "serving": ("owners in the zone", ("serve-a", "serve-cname", "serve-nxdomain", "serve-chain", "update-add", "update-swap")),
-    "reading": ("owners, or lines of a hosts file", ("zone-read", "hosts-read", "hosts-read-addresses", "hosts-read-names")),
-    "cache": ("entries", ("cache-hit", "cache-miss", "cache-full", "lookup-hit", "lookup-full")),
+    "serving": (
+        "owners in the zone",
+        {
+            "serve-a": "an address",
+            "serve-cname": "an alias and its address",
+            "serve-nxdomain": "a name that is not there",
+            "serve-chain": "seven aliases",
+            "update-add": "an added record",
+            "update-swap": "a replaced record",
+        },
+    ),
+    "reading": (
+        "owners, or lines of a hosts file",
+        {
+            "zone-read": "a zone file",
+            "hosts-read": "a hosts file",
+            "hosts-read-addresses": "a host with many addresses",
+            "hosts-read-names": "an address with many names",
+        },
+    ),
+    "cache": (
+        "entries",
+        {
+            "cache-hit": "an entry that is there",
+            "cache-miss": "one that is not there",
+            "cache-full": "one more in a full cache",
+            "lookup-hit": "a lookup of an entry",
+            "lookup-full": "a lookup in a full cache",
+        },
+    ),
 }
 UNITS = {"s": 1, "ms": 1e-3, "µs": 1e-6, "ns": 1e-9}
 ROW = re.compile(r"\| `([\w-]+)` \| ([\d,]+) \| ([\d.]+) (\S+) \|")
@@ -69,7 +96,7 @@ def draw_plots(file):
     """Draws all pictures of a table."""
     times = least_times(Path(file).read_text(encoding="utf-8"))
     for name, (what, operations) in PLOTS.items():
-        series = {it: times[it] for it in operations if it in times}
+        series = {words: times[it] for it, words in operations.items() if it in times}
         if series:
             to = ROOT / "docs" / "pictures" / f"{name}-times.svg"
             to.parent.mkdir(exist_ok=True)

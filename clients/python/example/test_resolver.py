@@ -4,6 +4,7 @@ To run them: `NAMESERVER=.. PYTHONPATH=clients/python pytest clients/python/exam
 """
 import pytest
 
+from nameserver import UpdateError
 from pytest_nameserver import nameserver, nameserver_of_session  # noqa: F401
 from resolver import LookupFailed, look_up
 
@@ -95,11 +96,12 @@ def test_restart(nameserver):
 def test_update(nameserver):
     """A record that changes while the server runs."""
     server = nameserver(ZONE)
-    assert server.update("swap www.example.com. 60 A 10.0.0.1 -> 10.0.0.2") == "NOERROR"
+    server.update("swap www 60 A 10.0.0.1 -> 10.0.0.2")
     assert look_up("www.example.com", server.address, server.port) == ["10.0.0.2"]
-    assert server.update("swap www.example.com. 60 A 10.0.0.1 -> 10.0.0.3") == "NXRRSET"
-    assert server.update("append mail.example.com. 60 MX 10 www.example.com.") == "NOERROR"
-    assert server.update("delete-name www.example.com.") == "NOERROR"
+    with pytest.raises(UpdateError, match="NXRRSET"):
+        server.update("swap www 60 A 10.0.0.1 -> 10.0.0.3")
+    server.update("update add new.example.com. 60 A 10.0.0.4\nupdate delete www.example.com.")
+    assert server.wait_for_records("new.example.com", "A") == ["10.0.0.4"]
     with pytest.raises(LookupFailed, match="code 3"):
         look_up("www.example.com", server.address, server.port)
 

@@ -9,7 +9,7 @@ import time
 from types import TracebackType
 from typing import Iterable, List, NamedTuple, Optional, Tuple, Type, Union
 
-from ._library import LIBRARY, Handle, Refusal, Wait, bytes_of, check
+from ._library import LIBRARY, Handle, Refusal, RumstraitError, Wait, bytes_of, check
 from .message import IDS
 from .types import number_of_type
 
@@ -78,11 +78,16 @@ def clock() -> int:
 
 
 class Resolver:
-    """A stub resolver with a cache (RFC 1034 section 5.3.1), for lookups in one event loop.
+    """A stub resolver with a cache (RFC 1034 section 5.3.1), for lookups in one event loop at a time.
 
         async with Resolver(["192.0.2.1", ("192.0.2.2", 5353)]) as resolver:
             for record in await resolver.look_up("www.example.com.", "A"):
                 print(record.data)
+
+    Without an event loop:
+
+        with Resolver(["192.0.2.1"]) as resolver:
+            print(resolver.look_up_now("www.example.com.", "A"))
 
     Lookups may run at the same time. A server is asked over UDP, each time from a port of its own, and over TCP if its reply is
     truncated; after one that does not reply the next is asked. Aliases are followed, and replies are cached.
@@ -111,8 +116,20 @@ class Resolver:
 
         Raises `RumstraitError` if there are none. Its `refusal` is NO_NAME if the name does not exist, NO_RECORDS if it has no
         records of the type, SERVER_ERROR if a server replied with an error, NO_SERVER if none gave a reply, and INVALID_NAME if
-        the name is no domain name.
+        the name is no domain name. Its text begins with the name and the type.
         """
+        try:
+            return await self._records_of(name, record_type)
+        except RumstraitError as error:
+            asked = f"TYPE{record_type}" if isinstance(record_type, int) else record_type
+            raise RumstraitError(error.refusal, f"{name} {asked}: {error}") from None
+
+    def look_up_now(self, name: str, record_type: Union[int, str]) -> List[Record]:
+        """Looks up records as `look_up` does, and returns when they are there: for programs without an event loop."""
+        return asyncio.run(self.look_up(name, record_type))
+
+    async def _records_of(self, name: str, record_type: Union[int, str]) -> List[Record]:
+        """Looks up the records of a name and a type."""
         lookup = self._begin(name.encode(), number_of_type(record_type))
         try:
             while True:

@@ -108,6 +108,21 @@ def test_why_there_are_no_records():
     asyncio.run(run())
 
 
+def test_errors_name_what_was_asked():
+    async def run():
+        async with served() as server, Resolver([server.place], attempts=1) as resolver:
+            for name, record_type, text in (
+                ("none.t.", "A", "none.t. A: the name does not exist"),
+                ("www.t.", 15, "www.t. TYPE15: the name has no records of the type"),
+                ("a..b", "A", "a..b A: no domain name"),
+            ):
+                with pytest.raises(RumstraitError) as raised:
+                    await resolver.look_up(name, record_type)
+                assert str(raised.value) == text
+
+    asyncio.run(run())
+
+
 def test_a_truncated_reply_is_asked_for_over_a_stream():
     async def run():
         async with served() as server, Resolver([server.place]) as resolver:
@@ -190,3 +205,7 @@ def test_the_program_nameserver():
 
     with NameServer("$ORIGIN t.\n" + TEXT, options=["--limit", "512"]) as server:
         asyncio.run(run(server.address, server.port))
+        with Resolver([(server.address, server.port)]) as resolver:
+            assert resolver.look_up_now("www.t.", "A") == resolver.look_up_now("www.t.", 1) == WWW
+            with pytest.raises(RumstraitError, match="none.t. A: the name does not exist"):
+                resolver.look_up_now("none.t.", "A")
