@@ -273,7 +273,7 @@ class NameServer:
         return [(at, text.strip()) for at, text in lines if at not in used and text.strip() and not text.lstrip().startswith("#")]
 
     def update(self, text, zone=None, seconds=5, key=None):
-        """Makes a dynamic update (RFC 2136), as a whole, or raises an `UpdateError` that has the code of the reply.
+        """Makes a dynamic update (RFC 2136), as a whole, and returns "NOERROR", or raises an `UpdateError` that has the code of the reply.
 
         Each line is a change or a prerequisite: in the words of `nsupdate`, with whole names,
 
@@ -303,6 +303,7 @@ class NameServer:
             error = key.verify(reply, mac) if key else None
         if decoded.code:
             raise UpdateError(text, CODES.get(decoded.code, str(decoded.code)), error, self.complaint())
+        return CODES[0]
 
     def records(self, name, type):
         """The data of the records that the zone has at a name, sorted.
