@@ -61,7 +61,7 @@ def start_nsupdate(server, *lines, pause=0):
 def test_update(nameserver):
     """dig finds what an update made, in the words of nsupdate and of lookup, and several changes are one update."""
     server = nameserver(ZONE)
-    assert server.update("update add mail.example.com 60 MX 10 www.example.com") is None
+    assert server.update("update add mail.example.com 60 MX 10 www.example.com") == "NOERROR"
     server.update("swap www 60 A 10.0.0.1 -> 10.0.0.2\nappend ftp 60 CNAME www\ndelete-set ns A")
     assert dig(server, "mail.example.com", "MX") == ["10 www.example.com."]
     assert dig(server, "ftp.example.com", "A") == ["www.example.com.", "10.0.0.2"]
