@@ -1,1 +1,2 @@
+mod RequestLaws
 mod ValueLaws
