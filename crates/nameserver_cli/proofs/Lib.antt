@@ -1,1 +1,2 @@
+mod RequestLaws
 pub mod ValueLaws

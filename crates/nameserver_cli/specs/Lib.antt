@@ -3,3 +3,4 @@ pub mod Arguments
 pub mod DurableArguments
 pub mod Ending
 pub mod Options
+pub mod replay

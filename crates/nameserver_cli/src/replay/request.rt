@@ -1,9 +1,12 @@
 //! The messages of requests in words.
 
+ghost use Rattle.std.specs.Prelude.{◌≡◌, ◌≤◌, length, IfOk, IfErr};
+ghost use Rattle.nameserver_cli.specs.replay.Request.{IsEncodingRefusal, IsWhole, is_truncated};
+
 use crate::replay::script::first_word;
 use dns_data::{RData, SOA};
 use dns_formats::type_of_word;
-use dns_messages::{Edns, Message, Query, Record};
+use dns_messages::{Edns, Message, Metadata, Query, Record};
 use dns_names::{Name, ParseError};
 use dns_updates::builder::UpdateBuilder;
 use dns_wire::{DNSClass, EncodeError, RecordType};
@@ -13,6 +16,9 @@ use std::alloc::{AllocError, Global};
 
 /// The id of each request in words.
 const ID: u16 = 1;
+
+/// The maximum length of a message, in bytes (RFC 1035 section 4.2.2).
+const MAX_LENGTH: usize = 65_535;
 
 /// What parts the changes of an update.
 const SEPARATOR: &str = " ; ";
@@ -80,33 +86,48 @@ impl From<AllocError> for RequestFault {
     }
 }
 
-/// Returns the message of a request: bytes after `hex` or `message`, or else words.
-pub fn request_of(alloc: Global, text: &str) -> Result<RequestBytes, RequestFault> {
+/// Returns the message of a request: bytes after `hex` or `message`, or else words. It has at most 65,535 bytes.
+pub fn request_of(alloc: Global, text: &str) -> Result<RequestBytes, RequestFault>
+    ensures { IfOk result (λ request. length request.bytes.items ≤ 65535) }
+{
     let (kind, rest) = first_word(text);
-    let is_raw = kind == "hex";
-    let bytes = if is_raw || kind == "message" {
-        bytes_of(alloc, rest)?
-    } else {
-        message_of(alloc, kind, rest)?
-    };
-    Ok(RequestBytes { bytes, is_raw })
+    let bytes = request_bytes(alloc, kind, rest)?;
+    Ok(RequestBytes {
+        bytes,
+        is_raw: kind == "hex",
+    })
 }
 
-/// Returns the bytes of a message in words.
-fn message_of(alloc: Global, kind: &str, rest: &str) -> Result<Vec<u8>, RequestFault> {
-    let message = match kind {
+/// Returns the bytes of the message of a request of a kind.
+fn request_bytes(alloc: Global, kind: &str, rest: &str) -> Result<Vec<u8>, RequestFault>
+    ensures { IfOk result (λ bytes. length bytes.items ≤ 65535) }
+{
+    match kind {
+        "hex" | "message" => bytes_of(alloc, rest),
+        _ => {
+            let message = message_of(alloc, kind, rest)?;
+            encoded(alloc, &message)
+        }
+    }
+}
+
+/// Returns the message of a request in words.
+fn message_of(alloc: Global, kind: &str, rest: &str) -> Result<Message, RequestFault> {
+    match kind {
         "query" => query_of(alloc, rest),
         "axfr" => transfer_of(alloc, rest, RecordType::AXFR),
         "ixfr" => incremental_of(alloc, rest),
         "update" => update_of(alloc, rest),
         _ => Err(RequestFault::Kind),
-    }?;
-    encoded(alloc, &message)
+    }
 }
 
 /// Returns the bytes that hexadecimal digits state.
-fn bytes_of(alloc: Global, digits: &str) -> Result<Vec<u8>, RequestFault> {
+fn bytes_of(alloc: Global, digits: &str) -> Result<Vec<u8>, RequestFault>
+    ensures { IfOk result (λ bytes. length bytes.items ≤ 65535) }
+{
     match hex::decode(alloc, digits) {
+        Ok(bytes) if bytes.len() > MAX_LENGTH => Err(RequestFault::TooLong),
         Ok(bytes) => Ok(bytes),
         // Memory for the bytes was refused.
         Err(FromHexError::OutOfMemory) => Err(RequestFault::Memory),
@@ -114,13 +135,28 @@ fn bytes_of(alloc: Global, digits: &str) -> Result<Vec<u8>, RequestFault> {
     }
 }
 
-/// Returns the bytes of a message.
-fn encoded(alloc: Global, message: &Message) -> Result<Vec<u8>, RequestFault> {
+/// Returns the bytes of a message, which must fit with all its records. A message has TC clear until it is encoded.
+fn encoded(alloc: Global, message: &Message) -> Result<Vec<u8>, RequestFault>
+    ensures whole { IfOk result (λ bytes. IsWhole message.now bytes.items) }
+    ensures within { IfOk result (λ bytes. length bytes.items ≤ 65535) }
+    ensures refused { IfErr result (IsEncodingRefusal message.now) }
+{
     match message.to_vec(alloc) {
+        Ok(bytes) if is_truncated(bytes.as_slice()) => Err(RequestFault::TooLong),
         Ok(bytes) => Ok(bytes),
         // Memory for the bytes was refused.
         Err(EncodeError::Memory) => Err(RequestFault::Memory),
         Err(EncodeError::MaxBufferSizeExceeded) => Err(RequestFault::TooLong),
+    }
+}
+
+/// Returns `true` if bytes begin with a header that has TC set (RFC 1035 section 4.1.1).
+fn is_truncated(bytes: &[u8]) -> bool
+    ensures { result ≡ is_truncated bytes.now }
+{
+    match Metadata::peek(bytes) {
+        Some(metadata) => metadata.truncation,
+        None => false,
     }
 }
 
