@@ -1,6 +1,8 @@
 -- Arguments with rules on others, and commands with further arguments.
-use Rattle.std.proofs.Common.{arith, length, length-append, ◌<◌, ◌≡◌, ◌∙◌, ◌&&◌, ◌++◌, ap, refl, Bool, true, false, not, ℕ, List, [], ◌∷◌, Bor, Option, Some}
+use Rattle.std.proofs.Common.{arith, length, length-append, ◌<◌, ◌≡◌, ◌∙◌, ◌&&◌, ◌++◌, ap, refl, Bool, true, false, not, ℕ, List, [], ◌∷◌, Bor, IfOk, Option, Some, Result, Ok, subst}
 use Rattle.std.proofs.lemmas.Grind.{common_steps}
+use Rattle.std.proofs.lemmas.Result.{IfOk-weaker}
+use Rattle.std.specs.declared.alloc.AllocError.{AllocError}
 use Rattle.clap.specs.Adds.{AddsConflicts, AddsRequiredUnless, AddsRequirements}
 use Rattle.clap.specs.Walk.{is_empty, is_free_arg}
 use Rattle.clap.specs.Words.{AddsArg, App, Rule, app_of, rule_of, with_rule}
@@ -8,7 +10,7 @@ use Rattle.clap.specs.declared.builder.arg.Arg.{Arg}
 use Rattle.clap.specs.declared.builder.arg.ArgPredicate.{ArgPredicate}
 use Rattle.clap.specs.declared.builder.command.Command.{Command}
 use Rattle.clap.specs.declared.builder.value_parser.ValueParser.{ValueParser}
-use Rattle.lookup_cli.specs.Command.{IsArg, bound, number, option, with_short}
+use Rattle.lookup_cli.specs.Command.{IsArg, Makes, bound, number, option, with_short}
 
 -- a list that something was added to is not empty
 added_to : {X : Type 0} (xs ys : List X) (x : X) → ys ≡ xs ++ x ∷ [] → is_empty ys ≡ false
@@ -72,3 +74,12 @@ pub with_arg : {rule : Rule} {old new : Command} {a : Arg} {app : App} → AddsA
     → app_of new ≡ with_rule app rule
 with_arg {rule} {old} {new} {a} {app} adds h is =
     adds.shape h.is_local ∙ ap (λ (r : Rule). with_rule (app_of old) r) h.rule_is ∙ ap (λ (x : App). with_rule x rule) is
+
+-- a command with one more argument, if there was memory for both
+pub makes_with_arg : (command made : Result Command AllocError) (arg : Result Arg AllocError) (old : Command) (added : Arg) (app : App) (rule : Rule)
+    → command ≡ Ok old → arg ≡ Ok added → IfOk made (AddsArg old added) → Makes app command → IfOk arg (IsArg rule)
+    → Makes (with_rule app rule) made
+makes_with_arg command made arg old added app rule is_old is_added adds is_app is_rule =
+    let before : app_of old ≡ app = subst (λ (r : Result Command AllocError). IfOk r (λ c. app_of c ≡ app)) is_old is_app.app_is in
+    let given : IsArg rule added = subst (λ (r : Result Arg AllocError). IfOk r (IsArg rule)) is_added is_rule in
+    record { app_is = IfOk-weaker made _ _ (λ new h. with_arg h given before) adds }

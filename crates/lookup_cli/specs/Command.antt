@@ -1,9 +1,11 @@
 -- The program's command, as clap parses its arguments. The texts of its help are not a part of this.
-use Rattle.std.specs.Prelude.{◌≡◌, ℕ, List, [], ◌∷◌, Some, codes, false, fold, pos, true}
+use Rattle.std.specs.Prelude.{◌≡◌, ℕ, List, [], ◌∷◌, Some, IfOk, Result, codes, false, fold, pos, true}
 use Rattle.clap.specs.Lexer.{usize_max}
 use Rattle.clap.specs.Simple.{on_top}
-use Rattle.clap.specs.Words.{App, Rule, new_app, new_rule, rule_of, with_rule}
+use Rattle.std.specs.declared.alloc.AllocError.{AllocError}
+use Rattle.clap.specs.Words.{App, Rule, app_of, new_app, new_rule, rule_of, with_rule}
 use Rattle.clap.specs.declared.builder.arg.Arg.{Arg}
+use Rattle.clap.specs.declared.builder.command.Command.{Command}
 use Rattle.clap.specs.declared.builder.action.ArgAction.TheVariants.{Append, Set, SetTrue}
 use Rattle.clap.specs.declared.builder.value_parser.ValueParser.{ValueParser}
 use Rattle.clap.specs.declared.builder.value_parser.ValueParser.TheVariants.{Signed}
@@ -41,6 +43,10 @@ bound rule = record rule { is_free = false }
 pub record IsArg (rule : Rule) (arg : Arg) : Type 0 where
   pub rule_is : rule_of arg ≡ rule
   pub is_local : arg.global ≡ false
+
+-- a command as clap parses it, unless memory for it was refused
+pub record Makes (app : App) (made : Result Command AllocError) : Type 0 where
+  pub app_is : IfOk made (λ command. app_of command ≡ app)
 
 -- the names, of which there may be several
 abbrev pub names_rule : Rule

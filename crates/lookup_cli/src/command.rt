@@ -1,8 +1,8 @@
 //! The command of the arguments, for clap.
 
 ghost use Rattle.std.specs.Prelude.{◌≡◌, IfOk, codes};
-ghost use Rattle.clap.specs.Words.{app_of};
-ghost use Rattle.lookup_cli.specs.Command.{IsArg, bare_app, between, bound, flag, flag_rules};
+ghost use Rattle.clap.specs.Words.{App, Rule, app_of, with_rule};
+ghost use Rattle.lookup_cli.specs.Command.{IsArg, Makes, bare_app, between, bound, flag, flag_rules};
 ghost use Rattle.lookup_cli.specs.Command.{item_rules, key_rules, list, lookup_app, names_rule, number};
 ghost use Rattle.lookup_cli.specs.Command.{option, source_rules, time_rules, update_rules};
 ghost use Rattle.lookup_cli.specs.Command.{with_rules, with_short};
@@ -17,9 +17,9 @@ const VERSION: &str = "0.1.0";
 pub(crate) fn command<'a>(alloc: Global) -> Result<Command<'a>, AllocError>
     ensures { IfOk result (λ command. app_of command ≡ lookup_app) }
 {
-    let command = with_items(alloc, bare_command(alloc))?;
-    let command = with_time(alloc, with_sources(alloc, command)?)?;
-    with_flags(alloc, with_key(alloc, with_update(alloc, command)?)?)
+    let items = with_items(alloc, Ok(bare_command(alloc)));
+    let sources = with_time(alloc, with_sources(alloc, items));
+    with_flags(alloc, with_key(alloc, with_update(alloc, sources)))
 }
 
 /// Returns the command without arguments.
@@ -31,14 +31,41 @@ fn bare_command<'a>(alloc: Global) -> Command<'a>
         .about("Looks up names at name servers")
 }
 
-/// Adds the options of what is looked up.
-fn with_items<'a>(alloc: Global, command: Command<'a>) -> Result<Command<'a>, AllocError>
-    ensures { IfOk result (λ other. app_of other ≡ with_rules (app_of command.entry) item_rules) }
+/// Adds an argument to a command, if there is memory for both.
+fn with_arg<'a>(
+    command: Result<Command<'a>, AllocError>,
+    arg: Result<Arg<'a>, AllocError>,
+) -> Result<Command<'a>, AllocError>
+    ensures { (app : App) (rule : Rule) → Makes app command.entry → IfOk arg.entry (IsArg rule)
+        → Makes (with_rule app rule) result }
 {
-    command
-        .arg(names(alloc)?)?
-        .arg(type_option(alloc)?)?
-        .arg(reverse_flag(alloc)?)
+    command?.arg(arg?)
+}
+
+/// Returns an argument that excludes an update.
+fn without_update<'a>(arg: Arg<'a>) -> Result<Arg<'a>, AllocError>
+    ensures { (rule : Rule) → IsArg rule arg.entry → IfOk result (IsArg (bound rule)) }
+{
+    arg.conflicts_with("update")
+}
+
+/// Returns an argument that requires another one.
+fn requiring<'a>(arg: Arg<'a>, id: &'a str) -> Result<Arg<'a>, AllocError>
+    ensures { (rule : Rule) → IsArg rule arg.entry → IfOk result (IsArg (bound rule)) }
+{
+    arg.requires_arg(id)
+}
+
+/// Adds the options of what is looked up.
+fn with_items<'a>(
+    alloc: Global,
+    command: Result<Command<'a>, AllocError>,
+) -> Result<Command<'a>, AllocError>
+    ensures { (app : App) → Makes app command.entry → Makes (with_rules app item_rules) result }
+{
+    let named = with_arg(command, names(alloc));
+    let typed = with_arg(named, type_option(alloc));
+    with_arg(typed, reverse_flag(alloc))
 }
 
 /// Returns the argument of the names.
@@ -60,120 +87,133 @@ fn names<'a>(alloc: Global) -> Result<Arg<'a>, AllocError>
 fn type_option<'a>(alloc: Global) -> Result<Arg<'a>, AllocError>
     ensures { IfOk result (IsArg (bound (with_short 116 (option (codes "type"))))) }
 {
-    option(
+    let option = option(
         alloc,
         "type",
         "TYPE",
         "The type of the records; addresses if it is omitted",
-    )
-    .short('t')
-    .conflicts_with("update")
+    );
+    without_update(option.short('t'))
 }
 
 /// Returns the flag of reverse names.
 fn reverse_flag<'a>(alloc: Global) -> Result<Arg<'a>, AllocError>
     ensures { IfOk result (IsArg (bound (with_short 120 (flag (codes "reverse"))))) }
 {
-    flag(
+    let flag = flag(
         alloc,
         "reverse",
         "Look up the PTR records of addresses, by their reverse names",
-    )
-    .short('x')
-    .conflicts_with("update")
+    );
+    without_update(flag.short('x'))
 }
 
 /// Adds the options of servers and of what completes names.
-fn with_sources<'a>(alloc: Global, command: Command<'a>) -> Result<Command<'a>, AllocError>
-    ensures { IfOk result (λ other. app_of other ≡ with_rules (app_of command.entry) source_rules) }
+fn with_sources<'a>(
+    alloc: Global,
+    command: Result<Command<'a>, AllocError>,
+) -> Result<Command<'a>, AllocError>
+    ensures { (app : App) → Makes app command.entry → Makes (with_rules app source_rules) result }
 {
-    command
-        .arg(list(
-            alloc,
-            "server",
-            "ADDRESS[:PORT]",
-            "A name server, in place of those of resolv.conf; the port is 53 if it is omitted",
-        ))?
-        .arg(option(
-            alloc,
-            "resolv-conf",
-            "FILE",
-            "The configuration; /etc/resolv.conf if neither it nor a server is given",
-        ))?
-        .arg(option(
-            alloc,
-            "hosts",
-            "FILE",
-            "The hosts file; /etc/hosts if it is omitted",
-        ))?
-        .arg(search_option(alloc)?)?
-        .arg(ndots_option(alloc)?)
+    let server = list(
+        alloc,
+        "server",
+        "ADDRESS[:PORT]",
+        "A name server, in place of those of resolv.conf; the port is 53 if it is omitted",
+    );
+    let resolv_conf = option(
+        alloc,
+        "resolv-conf",
+        "FILE",
+        "The configuration; /etc/resolv.conf if neither it nor a server is given",
+    );
+    let hosts = option(
+        alloc,
+        "hosts",
+        "FILE",
+        "The hosts file; /etc/hosts if it is omitted",
+    );
+    let served = with_arg(command, Ok(server));
+    let configured = with_arg(with_arg(served, Ok(resolv_conf)), Ok(hosts));
+    with_arg(
+        with_arg(configured, search_option(alloc)),
+        ndots_option(alloc),
+    )
 }
 
 /// Returns the option of the names that complete relative ones.
 fn search_option<'a>(alloc: Global) -> Result<Arg<'a>, AllocError>
     ensures { IfOk result (IsArg (bound (list (codes "search")))) }
 {
-    list(
+    without_update(list(
         alloc,
         "search",
         "NAME",
         "A name that completes relative names, in place of those of resolv.conf",
-    )
-    .conflicts_with("update")
+    ))
 }
 
 /// Returns the option of the number of dots.
 fn ndots_option<'a>(alloc: Global) -> Result<Arg<'a>, AllocError>
     ensures { IfOk result (IsArg (bound (number (codes "ndots") (between 0 15)))) }
 {
-    option(
+    let option = option(
         alloc,
         "ndots",
         "N",
         "The number of labels above which a name is looked up as it is before it is completed",
-    )
-    .value_parser(value_parser!(u8).range(0..=15))
-    .conflicts_with("update")
+    );
+    without_update(option.value_parser(value_parser!(u8).range(0..=15)))
 }
 
 /// Adds the options of how servers are asked.
-fn with_time<'a>(alloc: Global, command: Command<'a>) -> Result<Command<'a>, AllocError>
-    ensures { IfOk result (λ other. app_of other ≡ with_rules (app_of command.entry) time_rules) }
+fn with_time<'a>(
+    alloc: Global,
+    command: Result<Command<'a>, AllocError>,
+) -> Result<Command<'a>, AllocError>
+    ensures { (app : App) → Makes app command.entry → Makes (with_rules app time_rules) result }
 {
-    command
-        .arg(strategy_option(alloc)?)?
-        .arg(option(
-            alloc,
-            "timeout",
-            "SECONDS",
-            "How long to wait for a reply, with at most three decimals",
-        ))?
-        .arg(option(
-            alloc,
-            "attempts",
-            "N",
-            "How many times each server is asked",
-        )
-        .value_parser(value_parser!(u16).range(1..=1000)))
+    let timeout = option(
+        alloc,
+        "timeout",
+        "SECONDS",
+        "How long to wait for a reply, with at most three decimals",
+    );
+    let timed = with_arg(with_arg(command, strategy_option(alloc)), Ok(timeout));
+    with_arg(timed, Ok(attempts_option(alloc)))
 }
 
 /// Returns the option of the types of addresses.
 fn strategy_option<'a>(alloc: Global) -> Result<Arg<'a>, AllocError>
     ensures { IfOk result (IsArg (bound (option (codes "strategy")))) }
 {
-    option(
+    without_update(option(
         alloc,
         "strategy",
         "STRATEGY",
         "The types of addresses: ipv4, ipv6, both, ipv4-then-ipv6 or ipv6-then-ipv4",
+    ))
+}
+
+/// Returns the option of how many times each server is asked.
+fn attempts_option<'a>(alloc: Global) -> Arg<'a>
+    ensures { IsArg (number (codes "attempts") (between 1 1000)) result }
+{
+    option(
+        alloc,
+        "attempts",
+        "N",
+        "How many times each server is asked",
     )
-    .conflicts_with("update")
+    .value_parser(value_parser!(u16).range(1..=1000))
 }
 
 /// Adds the options of updates.
-fn with_update<'a>(alloc: Global, command: Command<'a>) -> Result<Command<'a>, AllocError>
-    ensures { IfOk result (λ other. app_of other ≡ with_rules (app_of command.entry) update_rules) }
+fn with_update<'a>(
+    alloc: Global,
+    command: Result<Command<'a>, AllocError>,
+) -> Result<Command<'a>, AllocError>
+    ensures { (app : App) → Makes app command.entry → Makes (with_rules app update_rules) result }
 {
     let update = option(
         alloc,
@@ -182,14 +222,16 @@ fn with_update<'a>(alloc: Global, command: Command<'a>) -> Result<Command<'a>, A
         "Send a dynamic update, such as 'append a 60 A 10.0.0.1'",
     );
     let zone = option(alloc, "zone", "NAME", "The zone of the update");
-    command
-        .arg(update.requires_arg("zone")?)?
-        .arg(zone.requires_arg("update")?)
+    let updated = with_arg(command, requiring(update, "zone"));
+    with_arg(updated, requiring(zone, "update"))
 }
 
 /// Adds the options of the key that signs an update.
-fn with_key<'a>(alloc: Global, command: Command<'a>) -> Result<Command<'a>, AllocError>
-    ensures { IfOk result (λ other. app_of other ≡ with_rules (app_of command.entry) key_rules) }
+fn with_key<'a>(
+    alloc: Global,
+    command: Result<Command<'a>, AllocError>,
+) -> Result<Command<'a>, AllocError>
+    ensures { (app : App) → Makes app command.entry → Makes (with_rules app key_rules) result }
 {
     let key = option(
         alloc,
@@ -203,30 +245,36 @@ fn with_key<'a>(alloc: Global, command: Command<'a>) -> Result<Command<'a>, Allo
         "NAME",
         "The name of the key; the first one of the file if it is omitted",
     );
-    command
-        .arg(key.requires_arg("update")?)?
-        .arg(name.requires_arg("key")?)
+    let signed = with_arg(command, requiring(key, "update"));
+    with_arg(signed, requiring(name, "key"))
 }
 
 /// Adds the options without a value.
-fn with_flags<'a>(alloc: Global, command: Command<'a>) -> Result<Command<'a>, AllocError>
-    ensures { IfOk result (λ other. app_of other ≡ with_rules (app_of command.entry) flag_rules) }
+fn with_flags<'a>(
+    alloc: Global,
+    command: Result<Command<'a>, AllocError>,
+) -> Result<Command<'a>, AllocError>
+    ensures { (app : App) → Makes app command.entry → Makes (with_rules app flag_rules) result }
 {
-    command
-        .arg(flag(alloc, "tcp", "Ask over TCP alone"))?
-        .arg(flag(alloc, "rotate", "Ask the servers in turn"))?
-        .arg(flag(alloc, "no-edns", "Leave the OPT record out of requests").conflicts_with(
-            "update",
-        )?)?
-        .arg(flag(alloc, "no-cache", "Ask again for what was found before").conflicts_with(
-            "update",
-        )?)?
-        .arg(flag(alloc, "json", "Print a JSON object for each lookup"))?
-        .arg(flag(
-            alloc,
-            "trace",
-            "Say on standard error what is sent and received",
-        ))
+    let no_edns = flag(alloc, "no-edns", "Leave the OPT record out of requests");
+    let no_cache = flag(alloc, "no-cache", "Ask again for what was found before");
+    let trace = flag(
+        alloc,
+        "trace",
+        "Say on standard error what is sent and received",
+    );
+    let over_tcp = with_arg(command, Ok(flag(alloc, "tcp", "Ask over TCP alone")));
+    let in_turn = with_arg(
+        over_tcp,
+        Ok(flag(alloc, "rotate", "Ask the servers in turn")),
+    );
+    let plain = with_arg(in_turn, without_update(no_edns));
+    let fresh = with_arg(plain, without_update(no_cache));
+    let as_json = with_arg(
+        fresh,
+        Ok(flag(alloc, "json", "Print a JSON object for each lookup")),
+    );
+    with_arg(as_json, Ok(trace))
 }
 
 /// Returns an option that takes one value.

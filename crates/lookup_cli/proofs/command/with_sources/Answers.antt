@@ -1,13 +1,12 @@
-use Rattle.std.proofs.Common.{refl}
-use Rattle.std.proofs.lemmas.Result.{IfOk-weaker}
-use Rattle.lookup_cli.proofs.CommandLaws.{with_arg}
+use Rattle.std.proofs.Common.{codes}
+use Rattle.lookup_cli.specs.Command.{between, bound, list, number, option}
 use Rattle.lookup_cli.proofs.command.with_sources.Goals as goal
 
 pub returns : goal.returns
-returns c =
-    IfOk-weaker c.arg-5.result _ _ (λ other adds.
-    with_arg adds c.in_ok-ndots_option.ensures
-    (with_arg c.in_ok-arg-4.ensures c.in_ok-search_option.ensures
-    (with_arg c.in_ok-arg-3.ensures c.option-2.ensures
-    (with_arg c.in_ok-arg-2.ensures c.option.ensures
-    (with_arg c.in_ok-arg.ensures c.list.ensures refl))))) c.arg-5.ensures
+returns c = λ app is.
+    c.with_arg-3.ensures _ (bound (number (codes "ndots") (between 0 15)))
+    (c.with_arg-2.ensures _ (bound (list (codes "search")))
+    (c.with_arg-configured.ensures _ (option (codes "hosts"))
+    (c.with_arg.ensures _ (option (codes "resolv-conf"))
+    (c.with_arg-served.ensures app (list (codes "server")) is c.list-server.ensures) c.option-resolv_conf.ensures) c.option-hosts.ensures)
+    c.search_option.ensures) c.ndots_option.ensures
