@@ -1,4 +1,4 @@
-"""Where the rows of data are, and why some went: a table of their files, and one of their operations (docs/ROWS.md).
+"""Where the rows of data are, and why some went: a table of their files, and one of their operations (CONTRIBUTING.md).
 
 usage: python3 scripts/rows.py [--check]
 
