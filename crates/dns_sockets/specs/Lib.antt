@@ -14,5 +14,6 @@ pub mod schedule
 pub mod Ledger
 pub mod Served
 pub mod Sent
+pub mod Moments
 pub mod Deadlines
 pub mod Tokens

@@ -5,6 +5,7 @@ ghost use Rattle.std.specs.List.{AllByRecursion};
 ghost use Rattle.dns_sockets.specs.Events.{Performs};
 ghost use Rattle.dns_sockets.specs.Deadlines.{earliest, slot_deadline};
 ghost use Rattle.dns_sockets.specs.Connections.{AreFollowed, AreFollowedAside, AreKept};
+ghost use Rattle.dns_sockets.specs.Moments.{IsTimed};
 ghost use Rattle.dns_sockets.specs.Trace.{At, IsAside, IsAsideEvent, Traces};
 ghost use Rattle.dns_sockets.specs.World as events;
 ghost use Rattle.dns_sockets.specs.StreamTable.{IsLeastActive, closed_at, has_transfer, is_less_active, transfers};
@@ -144,13 +145,13 @@ impl StreamTable {
     ) -> io::Result<()>
         ensures { Traces W.performs H.steps world.old handler.old world.new handler.new
             (λ acts. AllByRecursion IsAside acts
-            × AreFollowed self.old.slots.items self.new.slots.items acts) }
+            × AreFollowed self.old.slots.items self.new.slots.items acts × IsTimed acts) }
     {
-        let now = world.now()?;
+        let mut now = world.now()?;
         let end = now.saturating_add(MAX_TURN);
         let mut transfers = self.transfers();
         for _slot in 0..self.slots.len() {
-            if self.go_on_until(world, handler, buffer, now, end, &mut transfers)? {
+            if self.go_on_until(world, handler, buffer, &mut now, end, &mut transfers)? {
                 return Ok(());
             }
         }
@@ -165,20 +166,21 @@ impl StreamTable {
         world: &mut W,
         handler: &mut H,
         buffer: &mut [u8],
-        now: Milliseconds,
+        now: &mut Milliseconds,
         end: Milliseconds,
         transfers: &mut usize,
     ) -> io::Result<bool>
         ensures { Traces W.performs H.steps world.old handler.old world.new handler.new
             (λ acts. AllByRecursion IsAside acts
-            × AreFollowed self.old.slots.items self.new.slots.items acts) }
+            × AreFollowed self.old.slots.items self.new.slots.items acts × IsTimed acts) }
     {
         let is_busy = *transfers >= MAX_TRANSFERS;
-        if !self.go_on_next(world, handler, buffer, now, is_busy) {
+        if !self.go_on_next(world, handler, buffer, now, is_busy)? {
             return Ok(false);
         }
         *transfers = self.transfers();
-        Ok(world.now()? >= end)
+        *now = world.now()?;
+        Ok(*now >= end)
     }
 
     /// Lets the connection go on whose turn comes next, if it has something to do, and returns `true` if it had.
@@ -187,12 +189,12 @@ impl StreamTable {
         world: &mut W,
         handler: &mut H,
         buffer: &mut [u8],
-        now: Milliseconds,
+        now: &mut Milliseconds,
         is_busy: bool,
-    ) -> bool
+    ) -> io::Result<bool>
         ensures { Traces W.performs H.steps world.old handler.old world.new handler.new
             (λ acts. AllByRecursion IsAside acts
-            × AreFollowed self.old.slots.items self.new.slots.items acts) }
+            × AreFollowed self.old.slots.items self.new.slots.items acts × IsTimed acts) }
     {
         if self.first >= self.slots.len() {
             self.first = 0;
@@ -209,26 +211,26 @@ impl StreamTable {
         index: usize,
         handler: &mut H,
         buffer: &mut [u8],
-        now: Milliseconds,
+        now: &mut Milliseconds,
         is_busy: bool,
-    ) -> bool
+    ) -> io::Result<bool>
         ensures { Traces W.performs H.steps world.old handler.old world.new handler.new
             (λ acts. AllByRecursion IsAside acts
-            × AreFollowed self.old.slots.items self.new.slots.items acts) }
+            × AreFollowed self.old.slots.items self.new.slots.items acts × IsTimed acts) }
     {
         if index >= self.slots.len() {
-            return false;
+            return Ok(false);
         }
         let closes = match &mut self.slots[index] {
-            Some(stream) if stream.deadline() <= now => {
-                stream.go_on(world, index, handler, buffer, now, is_busy)
+            Some(stream) if stream.deadline() <= *now => {
+                stream.go_on(world, index, handler, buffer, now, is_busy)?
             }
-            _ => return false,
+            _ => return Ok(false),
         };
         if closes {
             self.close(world, index);
         }
-        true
+        Ok(true)
     }
 
     /// Returns the number of connections with a reply of several messages that waits.

@@ -1,7 +1,9 @@
-use Rattle.std.proofs.Common.{◌≡◌, ◌∙◌, Option, Some, ap, arith, refl}
+use Rattle.std.proofs.Common.{Bool, ◌≡◌, ◌∙◌, Option, Some, ap, arith, refl, subst}
 use Rattle.std.specs.Prelude.{slice_get, slice_set}
+use Rattle.dns_sockets.specs.Connections.{connection_of}
 use Rattle.dns_sockets.specs.declared.stream.Stream.{Stream}
 use Rattle.dns_sockets.proofs.ConnectionLaws.{on_closed, on_kept, on_none, on_stream, set_kept}
+use Rattle.dns_sockets.proofs.StreamStepLaws.{GoesOn}
 use Rattle.dns_sockets.proofs.StreamTableLaws.{found_at}
 use Rattle.dns_sockets.proofs.stream_table.StreamTable.go_on_at.Goals as goal
 
@@ -29,13 +31,21 @@ returns-then-closes g c =
     let slots = c.args.self.now.slots.items in
     let found : slice_get slots c.args.index ≡ Some (Some c.in-Some.stream) =
     found_at slots c.args.index c.index_mut.result.now (omega (arith, c.args.self.now.slots.ok, c.len.ensures, c.if-index-len.false)) c.index_mut.ensures.value ∙ ap Some c.in-Some.is in
-    on_closed g.W.World.performs g.H.Handler.steps slots (slice_set slots c.args.index (Some c.go_on-closes.new.self)) c.close.new.self.slots.items c.args.index c.in-Some.stream c.go_on-closes.new.self
-    c.args.world.now c.go_on-closes.new.world c.close.new.world c.args.handler.now c.go_on-closes.new.handler found refl c.if-closes.ensures.acts c.close.ensures.world c.close.ensures.closed
+    on_closed g.W.World.performs g.H.Handler.steps slots (slice_set slots c.args.index (Some c.go_on.new.self)) c.close.new.self.slots.items c.args.index c.in-Some.stream c.go_on.new.self
+    c.args.world.now c.go_on.new.world c.close.new.world c.args.handler.now c.go_on.new.handler found refl (subst (λ (b : Bool). GoesOn g.W.World.performs g.H.Handler.steps b c.args.index (connection_of c.in-Some.stream) (connection_of c.go_on.new.self) c.args.world.now c.go_on.new.world c.args.handler.now c.go_on.new.handler) c.if-closes.true c.in_ok-closes-in-Some.ensures.acts) c.close.ensures.world c.close.ensures.closed
 
 pub returns-else-closes : goal.returns-else-closes
 returns-else-closes g c =
     let slots = c.args.self.now.slots.items in
     let found : slice_get slots c.args.index ≡ Some (Some c.in-Some.stream) =
     found_at slots c.args.index c.index_mut.result.now (omega (arith, c.args.self.now.slots.ok, c.len.ensures, c.if-index-len.false)) c.index_mut.ensures.value ∙ ap Some c.in-Some.is in
-    on_stream g.W.World.performs g.H.Handler.steps slots (slice_set slots c.args.index (Some c.go_on-closes.new.self)) c.args.index c.in-Some.stream c.go_on-closes.new.self
-    c.args.world.now c.go_on-closes.new.world c.args.handler.now c.go_on-closes.new.handler found refl c.if-closes.ensures.acts
+    on_stream g.W.World.performs g.H.Handler.steps slots (slice_set slots c.args.index (Some c.go_on.new.self)) c.args.index c.in-Some.stream c.go_on.new.self
+    c.args.world.now c.go_on.new.world c.args.handler.now c.go_on.new.handler found refl (subst (λ (b : Bool). GoesOn g.W.World.performs g.H.Handler.steps b c.args.index (connection_of c.in-Some.stream) (connection_of c.go_on.new.self) c.args.world.now c.go_on.new.world c.args.handler.now c.go_on.new.handler) c.if-closes.false c.in_ok-closes-in-Some.ensures.acts)
+
+pub returns-in_err-closes-in-Some : goal.returns-in_err-closes-in-Some
+returns-in_err-closes-in-Some g c =
+    let slots = c.args.self.now.slots.items in
+    let found : slice_get slots c.args.index ≡ Some (Some c.in-Some.stream) =
+    found_at slots c.args.index c.index_mut.result.now (omega (arith, c.args.self.now.slots.ok, c.len.ensures, c.if-index-len.false)) c.index_mut.ensures.value ∙ ap Some c.in-Some.is in
+    on_stream g.W.World.performs g.H.Handler.steps slots (slice_set slots c.args.index (Some c.go_on.new.self)) c.args.index c.in-Some.stream c.go_on.new.self
+    c.args.world.now c.go_on.new.world c.args.handler.now c.go_on.new.handler found refl c.in_err-closes-in-Some.ensures.acts

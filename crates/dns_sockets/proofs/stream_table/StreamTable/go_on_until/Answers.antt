@@ -12,3 +12,6 @@ returns g c =
     let new = c.go_on_next.new.self.slots.items in
     on_then g.W.World.performs g.H.Handler.steps c.args.self.now.slots.items new new c.args.world.now c.go_on_next.new.world c.now.new.self c.args.handler.now c.go_on_next.new.handler c.go_on_next.new.handler c.go_on_next.ensures
     (on_clock g.W.World.performs g.H.Handler.steps new c.go_on_next.new.world c.now.new.self c.go_on_next.new.handler c.now.result c.now.ensures)
+
+pub returns-in_err-go_on_next : goal.returns-in_err-go_on_next
+returns-in_err-go_on_next g c = c.go_on_next.ensures
