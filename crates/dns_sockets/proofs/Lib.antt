@@ -2,6 +2,7 @@ pub mod DeliveryLaws
 pub mod TraceLaws
 pub mod MomentLaws
 mod StreamTableLaws
+pub mod RotationLaws
 pub mod StoreLaws
 pub mod DueLaws
 pub mod NoticeLaws
@@ -12,6 +13,7 @@ pub mod DeadlineLaws
 pub mod SentLaws
 pub mod EarnsWitness
 pub mod MomentWitness
+pub mod RotationWitness
 pub mod StreamStepLaws
 pub mod ConnectionLaws
 pub mod ServedLaws

@@ -1,5 +1,5 @@
 -- A turn in which two datagrams arrive, and then the clock shows the moment of both.
-use Rattle.std.proofs.Common.{◌≡◌, false, ℕ, List, [], ◌∷◌, ◌++◌, map, Option, Some, refl}
+use Rattle.std.proofs.Common.{◌≡◌, true, false, ℕ, List, [], ◌∷◌, ◌++◌, map, Option, Some, refl}
 use Rattle.std.specs.Global.{Vec}
 use Rattle.std.specs.declared.net.socket_addr.SocketAddr.{SocketAddr}
 use Rattle.dns_sockets.proofs.EarnsWitness as run
@@ -11,7 +11,7 @@ use Rattle.dns_sockets.specs.Moments.{AreTimed, IsDated}
 use Rattle.dns_sockets.specs.Notices.{is_response}
 use Rattle.dns_sockets.specs.Served.{IsServed}
 use Rattle.dns_sockets.specs.Trace.{Act, At, By, Socket}
-use Rattle.dns_sockets.specs.World.{Clocked}
+use Rattle.dns_sockets.specs.World.{Clocked, Sent}
 use Rattle.dns_sockets.specs.declared.stream.Stream.{Stream}
 
 module _ (first second : SocketAddr) (question reply other : Vec ℕ) (asks : is_response question.items ≡ false) where
@@ -26,7 +26,8 @@ module _ (first second : SocketAddr) (question reply other : Vec ℕ) (asks : is
   pub moment_is_shown : IsDated 5 before
   moment_is_shown =
       dated before (Socket 0) (Handled (map (content_at 5) (run.from first second question reply other asks first ∷ run.from first second question reply other asks second ∷ []))
-      (Some (run.once first second question reply other asks ∷ run.twice first second question reply other asks ∷ []))) _ 1 (content_at 5 (run.from first second question reply other asks second)) (served []).timed refl
+      (Some (run.once first second question reply other asks ∷ run.twice first second question reply other asks ∷ [])))
+      (At (Sent 0 reply.items first true) ∷ At (Sent 0 other.items second true) ∷ At (Sent 0 other.items second false) ∷ []) 1 (content_at 5 (run.from first second question reply other asks second)) (served []).timed refl
 
   -- and not one that was shown before
   pub moment_of_before_is_refused : AreTimed (Some 5) (run.acts first second question reply other asks) → ⊥

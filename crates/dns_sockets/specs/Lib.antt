@@ -3,6 +3,7 @@ pub mod Connections
 pub mod StreamHistory
 pub mod StreamSteps
 pub mod StreamTable
+pub mod Rotation
 pub mod Notices
 pub mod Output
 pub mod Handler

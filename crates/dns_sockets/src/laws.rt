@@ -1,12 +1,14 @@
 //! Theorems about the definitions of this crate, as functions with empty bodies.
 
-ghost use Rattle.std.specs.Prelude.{◌≡◌, [], ◌∷◌, ◌++◌, slice_get, true, ℕ, List, Option, Some};
+ghost use Rattle.std.specs.List.{AllByRecursion, Contains};
+ghost use Rattle.std.specs.Prelude.{◌≡◌, ◌<◌, ◌≤◌, length, [], ◌∷◌, ◌++◌, slice_get, true, ℕ, List, Option, Some};
 ghost use Rattle.std.specs.declared.net.socket_addr.SocketAddr.{SocketAddr};
 ghost use Rattle.dns_faults.specs.declared.delivery.Delivery.{Delivery};
 ghost use Rattle.dns_sockets.specs.Connections.{AreFollowed};
 ghost use Rattle.dns_sockets.specs.Handler.{Handled, HandlerEvent, RequestContent};
 ghost use Rattle.dns_sockets.specs.Ledger.{AllPaid, Earns, Weight, replies, requests};
 ghost use Rattle.dns_sockets.specs.Moments.{HasArrived, IsDated, requests_in};
+ghost use Rattle.dns_sockets.specs.Rotation.{IsPlaceOf, places_of};
 ghost use Rattle.dns_sockets.specs.Served.{IsServed};
 ghost use Rattle.dns_sockets.specs.StreamHistory.{HaveArrived, IsFront, handled_on, read_on, replied_on, written_on};
 ghost use Rattle.dns_sockets.specs.Sent.{IsGiven};
@@ -60,4 +62,12 @@ pub fn moments_follow_arrivals()
         (before ++ By (Socket socket) (Handled requests outcome) ∷ rest)
         → slice_get requests place ≡ Some request
         → HasArrived socket request before }
+{}
+
+/// However the number of places of a table of connections changes, each place has its turn within as many turns as there are places at
+/// most. (What a connection does at its turn, this law does not say.)
+pub fn each_place_has_its_turn()
+    ensures { (first place most : ℕ) (counts : List ℕ) → place < most
+        → AllByRecursion (IsPlaceOf place most) counts → most ≤ length counts
+        → Contains (places_of first counts) place }
 {}

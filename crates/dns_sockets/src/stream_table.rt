@@ -1,6 +1,6 @@
 //! The connections of a service.
 
-ghost use Rattle.std.specs.Prelude.{◌≡◌, ◌++◌, [], ◌∷◌, true, false, IfSome, None, Some, map, slice_get, slice_set};
+ghost use Rattle.std.specs.Prelude.{◌≡◌, ◌<◌, ◌+◌, ◌++◌, [], ◌∷◌, true, false, IfSome, None, OnOk, Some, length, map, slice_get, slice_set, ℕ};
 ghost use Rattle.std.specs.List.{AllByRecursion};
 ghost use Rattle.dns_sockets.specs.Events.{Performs};
 ghost use Rattle.dns_sockets.specs.Deadlines.{earliest, slot_deadline};
@@ -8,6 +8,7 @@ ghost use Rattle.dns_sockets.specs.Connections.{AreFollowed, AreFollowedAside, A
 ghost use Rattle.dns_sockets.specs.Moments.{IsTimed};
 ghost use Rattle.dns_sockets.specs.Trace.{At, IsAside, IsAsideEvent, Traces};
 ghost use Rattle.dns_sockets.specs.World as events;
+ghost use Rattle.dns_sockets.specs.Rotation.{first_after, next_place};
 ghost use Rattle.dns_sockets.specs.StreamTable.{IsLeastActive, closed_at, has_transfer, is_less_active, transfers};
 
 use crate::clock::Milliseconds;
@@ -117,6 +118,7 @@ impl StreamTable {
     fn close<W: World>(&mut self, world: &mut W, index: usize)
         ensures world { W.performs world.old (events.Closed index) world.new }
         ensures closed { self.new.slots.items ≡ closed_at self.old.slots.items index }
+        ensures first { self.new.first ≡ self.old.first }
     {
         world.close(index);
         if index < self.slots.len() {
@@ -143,9 +145,13 @@ impl StreamTable {
         handler: &mut H,
         buffer: &mut [u8],
     ) -> io::Result<()>
-        ensures { Traces W.performs H.steps world.old handler.old world.new handler.new
+        ensures acts { Traces W.performs H.steps world.old handler.old world.new handler.new
             (λ acts. AllByRecursion IsAside acts
             × AreFollowed self.old.slots.items self.new.slots.items acts × IsTimed acts) }
+        ensures rotates { OnOk result ((turns : ℕ)
+            × ((0 < length self.old.slots.items → 0 < turns)
+            × (self.new.first ≡ first_after turns (length self.old.slots.items)
+            self.old.first))) }
     {
         let mut now = world.now()?;
         let end = now.saturating_add(MAX_TURN);
@@ -155,7 +161,7 @@ impl StreamTable {
                 return Ok(());
             }
         }
-        self.trim();
+        trim(&mut self.slots);
         Ok(())
     }
 
@@ -170,9 +176,12 @@ impl StreamTable {
         end: Milliseconds,
         transfers: &mut usize,
     ) -> io::Result<bool>
-        ensures { Traces W.performs H.steps world.old handler.old world.new handler.new
+        ensures acts { Traces W.performs H.steps world.old handler.old world.new handler.new
             (λ acts. AllByRecursion IsAside acts
             × AreFollowed self.old.slots.items self.new.slots.items acts × IsTimed acts) }
+        ensures first { self.new.first
+            ≡ next_place (length self.old.slots.items) self.old.first + 1 }
+        ensures count { length self.new.slots.items ≡ length self.old.slots.items }
     {
         let is_busy = *transfers >= MAX_TRANSFERS;
         if !self.go_on_next(world, handler, buffer, now, is_busy)? {
@@ -192,9 +201,12 @@ impl StreamTable {
         now: &mut Milliseconds,
         is_busy: bool,
     ) -> io::Result<bool>
-        ensures { Traces W.performs H.steps world.old handler.old world.new handler.new
+        ensures acts { Traces W.performs H.steps world.old handler.old world.new handler.new
             (λ acts. AllByRecursion IsAside acts
             × AreFollowed self.old.slots.items self.new.slots.items acts × IsTimed acts) }
+        ensures first { self.new.first
+            ≡ next_place (length self.old.slots.items) self.old.first + 1 }
+        ensures count { length self.new.slots.items ≡ length self.old.slots.items }
     {
         if self.first >= self.slots.len() {
             self.first = 0;
@@ -214,9 +226,11 @@ impl StreamTable {
         now: &mut Milliseconds,
         is_busy: bool,
     ) -> io::Result<bool>
-        ensures { Traces W.performs H.steps world.old handler.old world.new handler.new
+        ensures acts { Traces W.performs H.steps world.old handler.old world.new handler.new
             (λ acts. AllByRecursion IsAside acts
             × AreFollowed self.old.slots.items self.new.slots.items acts × IsTimed acts) }
+        ensures first { self.new.first ≡ self.old.first }
+        ensures count { length self.new.slots.items ≡ length self.old.slots.items }
     {
         if index >= self.slots.len() {
             return Ok(false);
@@ -240,23 +254,23 @@ impl StreamTable {
         count_transfers(self.slots.as_slice())
     }
 
-    /// Removes the places after the last connection.
-    fn trim(&mut self)
-        ensures { AreKept self.old.slots.items self.new.slots.items }
-    {
-        for _slot in 0..self.slots.len() {
-            if !matches!(self.slots.as_slice().last(), Some(None)) {
-                return;
-            }
-            let _none = self.slots.pop();
-        }
-    }
-
     /// Returns when a connection next has something to do without its peer.
     pub(crate) fn deadline(&self) -> Milliseconds
         ensures { result ≡ earliest slot_deadline self.now.slots.items }
     {
         earliest_slot(self.slots.as_slice())
+    }
+}
+
+/// Removes the places after the last connection.
+fn trim(slots: &mut Vec<Option<Stream>>)
+    ensures { AreKept slots.old.items slots.new.items }
+{
+    for _slot in 0..slots.len() {
+        if !matches!(slots.as_slice().last(), Some(None)) {
+            return;
+        }
+        let _none = slots.pop();
     }
 }
 
