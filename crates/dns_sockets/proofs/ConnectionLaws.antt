@@ -37,7 +37,7 @@ same_or_other i j = by (i == j) refl
     by true is = inl (grind (arith, nat_tests))
     by false is = inr (λ same. absurd (grind (arith, nat_tests)))
 
-set_here : {A : Type 0} (xs : List A) (i : ℕ) (x : A) → i < length xs → slice_get (slice_set xs i x) i ≡ Some x
+pub set_here : {A : Type 0} (xs : List A) (i : ℕ) (x : A) → i < length xs → slice_get (slice_set xs i x) i ≡ Some x
 set_here [] i x within = absurd (omega (arith, within))
 set_here (y ∷ ys) zero x within = refl
 set_here (y ∷ ys) (suc i) x within = set_here ys i x (omega (arith, within))

@@ -134,9 +134,10 @@ steps_apart index (Receive first ∷ steps) g g1 old new acts are =
     let received = are.2.1.0 in
     subst (λ (l : List Act). AllByRecursion IsApart l) (sym are.2.0)
     (all_more IsApart first are.1
-    (subst (λ (l : List Act). AllByRecursion IsApart l) (sym received.3.0)
-    (receive_apart index received.0 received.3.1.0,
-    all_more IsApart (map At received.1) (map (By (Socket index)) received.2) (clocks_apart index received.0 g are.0 received.1 received.2 received.3.1.0 received.3.1.1) (calls_apart index received.2)))
+    (subst (λ (l : List Act). AllByRecursion IsApart l) (sym received.3.0) (
+      receive_apart index received.0 received.3.1.0,
+      all_more IsApart (map At received.1) (map (By (Socket index)) received.2) (clocks_apart index received.0 g are.0 received.1 received.2 received.3.1.0 received.3.1.1) (calls_apart index received.2),
+    ))
     (steps_apart index steps are.0 g1 old new are.1 are.2.1.1))
 steps_apart index (Handle first ∷ steps) g g1 old new acts are =
     subst (λ (l : List Act). AllByRecursion IsApart l) (sym are.2.0)

@@ -1,5 +1,7 @@
 -- In which order the connections of a table have their turns.
-use Rattle.std.specs.Prelude.{◌+◌, ◌<◌, ◌≤◌, nat_lt, if◌then◌else◌, ℕ, zero, suc, List, [], ◌∷◌}
+use Rattle.std.specs.Prelude.{◌≡◌, ◌+◌, ◌<◌, ◌≤◌, ◌⊎◌, nat_lt, if◌then◌else◌, true, ⊤, ℕ, zero, suc, List, [], ◌∷◌, Option, Some, None}
+use Rattle.dns_sockets.specs.Stream.{deadline}
+use Rattle.dns_sockets.specs.declared.stream.Stream.{Stream}
 
 -- the place whose turn comes, of so many: the one that is the first, or the place 0 if there is none such
 abbrev pub next_place : ℕ → ℕ → ℕ
@@ -18,3 +20,13 @@ places_of first (count ∷ counts) = next_place count first ∷ places_of (next_
 -- there is a place, and there are at most so many
 abbrev pub IsPlaceOf : ℕ → ℕ → ℕ → Type 0
 IsPlaceOf place most count = (place < count) × (count ≤ most)
+
+-- the connection at a place of a table, if there is one, has nothing to do at a moment
+abbrev pub IsIdleAt : ℕ → Option (Option Stream) → Type 0
+IsIdleAt now (Some (Some stream)) = now < deadline stream
+IsIdleAt now slot = ⊤
+
+-- the same, or it is to go on again at once
+abbrev pub HasGoneOn : ℕ → Option (Option Stream) → Type 0
+HasGoneOn now (Some (Some stream)) = (stream.wants_turn ≡ true) ⊎ (now < deadline stream)
+HasGoneOn now slot = ⊤

@@ -1,6 +1,6 @@
 //! The connections of a service.
 
-ghost use Rattle.std.specs.Prelude.{◌≡◌, ◌<◌, ◌+◌, ◌++◌, [], ◌∷◌, true, false, IfSome, None, OnOk, Some, length, map, slice_get, slice_set, ℕ};
+ghost use Rattle.std.specs.Prelude.{◌≡◌, ◌<◌, ◌+◌, ◌++◌, [], ◌∷◌, true, false, IfSome, None, Ok, OnOk, Some, length, map, slice_get, slice_set, ℕ};
 ghost use Rattle.std.specs.List.{AllByRecursion};
 ghost use Rattle.dns_sockets.specs.Events.{Performs};
 ghost use Rattle.dns_sockets.specs.Deadlines.{earliest, slot_deadline};
@@ -8,7 +8,7 @@ ghost use Rattle.dns_sockets.specs.Connections.{AreFollowed, AreFollowedAside, A
 ghost use Rattle.dns_sockets.specs.Moments.{IsTimed};
 ghost use Rattle.dns_sockets.specs.Trace.{At, IsAside, IsAsideEvent, Traces};
 ghost use Rattle.dns_sockets.specs.World as events;
-ghost use Rattle.dns_sockets.specs.Rotation.{first_after, next_place};
+ghost use Rattle.dns_sockets.specs.Rotation.{HasGoneOn, IsIdleAt, first_after, next_place};
 ghost use Rattle.dns_sockets.specs.StreamTable.{IsLeastActive, closed_at, has_transfer, is_less_active, transfers};
 
 use crate::clock::Milliseconds;
@@ -207,6 +207,10 @@ impl StreamTable {
         ensures first { self.new.first
             ≡ next_place (length self.old.slots.items) self.old.first + 1 }
         ensures count { length self.new.slots.items ≡ length self.old.slots.items }
+        ensures idle { result ≡ Ok false → IsIdleAt now.old (slice_get self.old.slots.items
+            (next_place (length self.old.slots.items) self.old.first)) }
+        ensures gone_on { result ≡ Ok true → HasGoneOn now.new (slice_get self.new.slots.items
+            (next_place (length self.old.slots.items) self.old.first)) }
     {
         if self.first >= self.slots.len() {
             self.first = 0;
@@ -231,6 +235,10 @@ impl StreamTable {
             × AreFollowed self.old.slots.items self.new.slots.items acts × IsTimed acts) }
         ensures first { self.new.first ≡ self.old.first }
         ensures count { length self.new.slots.items ≡ length self.old.slots.items }
+        ensures idle { result ≡ Ok false
+            → IsIdleAt now.old (slice_get self.old.slots.items index) }
+        ensures gone_on { result ≡ Ok true
+            → HasGoneOn now.new (slice_get self.new.slots.items index) }
     {
         if index >= self.slots.len() {
             return Ok(false);
@@ -239,7 +247,8 @@ impl StreamTable {
             Some(stream) if stream.deadline() <= *now => {
                 stream.go_on(world, index, handler, buffer, now, is_busy)?
             }
-            _ => return Ok(false),
+            Some(_) => return Ok(false),
+            None => return Ok(false),
         };
         if closes {
             self.close(world, index);

@@ -1,4 +1,4 @@
-use Rattle.std.proofs.Common.{◌≡◌, ◌∙◌, ◌++◌, [], ap, map, refl, subst, List, Option, Some, None}
+use Rattle.std.proofs.Common.{◌++◌, [], ap, map, refl, subst, List, Option, Some, None}
 use Rattle.dns_faults.specs.declared.delivery.Delivery.{Delivery}
 use Rattle.dns_sockets.specs.Datagrams.{HandlesIf}
 use Rattle.dns_sockets.specs.Handler.{deliveries_if}

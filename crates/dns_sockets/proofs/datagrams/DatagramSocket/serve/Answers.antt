@@ -3,7 +3,7 @@ use Rattle.std.specs.Prelude.{is_err}
 use Rattle.dns_sockets.specs.Datagrams.{IsTurn}
 use Rattle.dns_sockets.specs.Trace.{Traces}
 use Rattle.dns_sockets.specs.declared.datagrams.Datagram.{Datagram}
-use Rattle.dns_sockets.proofs.DeliveryLaws.{fails_turn, no_step, ends_turn, turn_handled, turns_append}
+use Rattle.dns_sockets.proofs.DeliveryLaws.{fails_turn, ends_turn, turn_handled, turns_append}
 use Rattle.dns_sockets.proofs.datagrams.DatagramSocket.serve.Goals as goal
 
 pub returns-in_err-receive_all : goal.returns-in_err-receive_all

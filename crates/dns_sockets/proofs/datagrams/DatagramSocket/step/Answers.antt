@@ -40,4 +40,3 @@ pub returns-else-is_received : goal.returns-else-is_received
 returns-else-is_received g c =
     turn_received c.args.index g.W.World.performs g.H.Handler.steps c.args.world.now c.receive.new.world c.args.handler.now c.receive.new.handler c.args.gathered.now.items c.receive.new.gathered.items
     c.args.waiting.now c.receive.ensures
-

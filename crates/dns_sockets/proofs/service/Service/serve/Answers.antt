@@ -38,7 +38,7 @@ returns-in_err-go_on g c =
     c.accept.ensures.waiting in
     let at_streams = serves_then performs steps c.args.world.now c.accept.new.world c.go_on.new.world c.args.handler.now c.serve_datagrams.new.handler c.go_on.new.handler start.items accepted.waiting.items accepted.waiting.items
     streams accepted.streams.slots.items c.go_on.new.self.slots.items at_listeners
-    (serves_streams performs steps c.accept.new.world c.go_on.new.world c.serve_datagrams.new.handler c.go_on.new.handler accepted.waiting.items accepted.streams.slots.items c.go_on.new.self.slots.items c.go_on.ensures) in
+    (serves_streams performs steps c.accept.new.world c.go_on.new.world c.serve_datagrams.new.handler c.go_on.new.handler accepted.waiting.items accepted.streams.slots.items c.go_on.new.self.slots.items c.go_on.ensures.acts) in
     at_streams
 
 pub returns : goal.returns
@@ -59,7 +59,7 @@ returns g c =
     c.accept.ensures.waiting in
     let at_streams = serves_then performs steps c.args.world.now c.accept.new.world c.go_on.new.world c.args.handler.now c.serve_datagrams.new.handler c.go_on.new.handler start.items accepted.waiting.items accepted.waiting.items
     streams accepted.streams.slots.items c.go_on.new.self.slots.items at_listeners
-    (serves_streams performs steps c.accept.new.world c.go_on.new.world c.serve_datagrams.new.handler c.go_on.new.handler accepted.waiting.items accepted.streams.slots.items c.go_on.new.self.slots.items c.go_on.ensures) in
+    (serves_streams performs steps c.accept.new.world c.go_on.new.world c.serve_datagrams.new.handler c.go_on.new.handler accepted.waiting.items accepted.streams.slots.items c.go_on.new.self.slots.items c.go_on.ensures.acts) in
     let slots = c.go_on.new.self.slots.items in
     let at_due = serves_then performs steps c.args.world.now c.go_on.new.world c.send_due.new.world c.args.handler.now c.go_on.new.handler c.go_on.new.handler start.items accepted.waiting.items c.send_due.new.waiting.items
     streams slots slots at_streams
