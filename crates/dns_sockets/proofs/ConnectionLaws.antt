@@ -11,11 +11,13 @@ use Rattle.std.proofs.lemmas.Option.{slice_get_past, slice_get_within}
 use Rattle.dns_sockets.specs.Connections.{AreFollowed, AreFollowedAside, AreKept, Connected, Follows, IsAdmitted, Place, admitted, call_after, changed, connected, connection_at, connection_in, connection_of, closed, event_after, place_in, read_after, written_after}
 use Rattle.dns_sockets.specs.Events.{Performs}
 use Rattle.dns_sockets.specs.Handler.{HandlerEvent}
+use Rattle.dns_sockets.specs.Moments.{IsTimed}
 use Rattle.dns_sockets.specs.StreamSteps.{Leaves, place}
 use Rattle.dns_sockets.specs.StreamTable.{IsLeastActive, closed_at, is_less_active}
 use Rattle.dns_sockets.specs.Trace.{Act, At, By, Connection, IsOfStream, Nowhere, Socket, Traces, IsAside, IsAsideEvent}
 use Rattle.dns_sockets.specs.World.{WorldEvent, Accepted, Admitted, Clocked, Closed, Read, Received, Sent, Unreceived, Waited, Woken, Written, clock_event}
 use Rattle.dns_sockets.specs.declared.stream.Stream.{Stream}
+use Rattle.dns_sockets.proofs.MomentLaws.{timed_both, timed_none}
 use Rattle.dns_sockets.proofs.StreamStepLaws.{follows_both, same_index}
 use Rattle.dns_sockets.proofs.TraceLaws.{all_more, clock_is, leads_both, led_both, of_stream_is_aside}
 
@@ -35,7 +37,7 @@ same_or_other i j = by (i == j) refl
     by true is = inl (grind (arith, nat_tests))
     by false is = inr (λ same. absurd (grind (arith, nat_tests)))
 
-set_here : {A : Type 0} (xs : List A) (i : ℕ) (x : A) → i < length xs → slice_get (slice_set xs i x) i ≡ Some x
+pub set_here : {A : Type 0} (xs : List A) (i : ℕ) (x : A) → i < length xs → slice_get (slice_set xs i x) i ≡ Some x
 set_here [] i x within = absurd (omega (arith, within))
 set_here (y ∷ ys) zero x within = refl
 set_here (y ∷ ys) (suc i) x within = set_here ys i x (omega (arith, within))
@@ -81,7 +83,7 @@ elsewhere index other p (At (Sent socket bytes peer taken) ∷ acts) differ all 
 elsewhere index other p (At (Accepted listener peer) ∷ acts) differ all = absurd all.0
 elsewhere index other p (At (Admitted stream admitted) ∷ acts) differ all = absurd all.0
 elsewhere index other p (At (Closed stream) ∷ acts) differ all = absurd all.0
-elsewhere index other p (At (Clocked moment) ∷ acts) differ all = absurd all.0
+elsewhere index other p (At (Clocked moment) ∷ acts) differ all = (tt, elsewhere index other p acts differ all.1)
 elsewhere index other p (At (Waited most) ∷ acts) differ all = absurd all.0
 elsewhere index other p (At (Woken wake) ∷ acts) differ all = absurd all.0
 
@@ -300,27 +302,31 @@ module _ {S : Type 0} (performs : S → WorldEvent → S → Type 0) where
 module _ {S H : Type 0} (performs : S → WorldEvent → S → Type 0) (steps : H → HandlerEvent → H → Type 0) where
   -- what happens on connections
   abbrev pub OnStreams : S → H → S → H → List (Option Stream) → List (Option Stream) → Type 0
-  OnStreams w h w1 h1 a b = Traces performs steps w h w1 h1 (λ acts. AllByRecursion IsAside acts × AreFollowed a b acts)
+  OnStreams w h w1 h1 a b = Traces performs steps w h w1 h1 (λ acts. AllByRecursion IsAside acts × AreFollowed a b acts × IsTimed acts)
 
   -- nothing
   pub on_none : (a : List (Option Stream)) (w : S) (h : H) → OnStreams w h w h a a
-  on_none a w h = record { acts = []; leads = (refl, refl); holds = (tt, λ index accepted. (accepted, refl)) }
+  on_none a w h = record { acts = []; leads = (refl, refl); holds = (tt, λ index accepted. (accepted, refl), timed_none) }
 
   -- acts after others
   pub on_then : (a b c : List (Option Stream)) (w w1 w2 : S) (h h1 h2 : H) → OnStreams w h w1 h1 a b → OnStreams w1 h1 w2 h2 b c → OnStreams w h w2 h2 a c
   on_then a b c w w1 w2 h h1 h2 first next = record {
     acts = first.acts ++ next.acts;
     leads = leads_both performs steps w w1 w2 h h1 h2 first.acts next.acts first.leads next.leads;
-    holds = (all_more IsAside first.acts next.acts first.holds.0 next.holds.0, followed_both a b c first.acts next.acts first.holds.1 next.holds.1);
+    holds = (
+      all_more IsAside first.acts next.acts first.holds.0 next.holds.0,
+      followed_both a b c first.acts next.acts first.holds.1 next.holds.1,
+      timed_both first.acts next.acts first.holds.2 next.holds.2,
+    );
   }
 
   -- a table whose connections are as they were
   pub on_kept : (a b c : List (Option Stream)) (w w1 : S) (h h1 : H) → OnStreams w h w1 h1 a b → AreKept b c → OnStreams w h w1 h1 a c
-  on_kept a b c w w1 h h1 happened kept = record { acts = happened.acts; leads = happened.leads; holds = (happened.holds.0, followed_kept a b c happened.acts happened.holds.1 kept) }
+  on_kept a b c w w1 h h1 happened kept = record { acts = happened.acts; leads = happened.leads; holds = (happened.holds.0, followed_kept a b c happened.acts happened.holds.1 kept, happened.holds.2) }
 
   -- a reading of the clock
   pub on_clock : (a : List (Option Stream)) (w w1 : S) (h : H) (now : Result ℕ Error) → performs w (clock_event now) w1 → OnStreams w h w1 h a a
-  on_clock a w w1 h now step = record { acts = At (clock_event now) ∷ []; leads = (w1, (step, (refl, refl))); holds = ((clock_is now, tt), λ index accepted. (accepted, by now index accepted)) }
+  on_clock a w w1 h now step = record { acts = At (clock_event now) ∷ []; leads = (w1, (step, (refl, refl))); holds = ((clock_is now, tt), λ index accepted. (accepted, by now index accepted), λ shown. (tt, tt)) }
     where
       by : (n : Result ℕ Error) (index : ℕ) (accepted : Option SocketAddr) → Follows index (place_in a index accepted) (At (clock_event n) ∷ []) (place_in a index accepted)
       by (Ok moment) index accepted = (tt, refl)
@@ -328,16 +334,16 @@ module _ {S H : Type 0} (performs : S → WorldEvent → S → Type 0) (steps : 
 
   -- a connection goes on
   pub on_stream : (slots new : List (Option Stream)) (stream : ℕ) (s after : Stream) (w w1 : S) (h h1 : H) → slice_get slots stream ≡ Some (Some s) → new ≡ slice_set slots stream (Some after)
-      → Traces performs steps w h w1 h1 (λ acts. AllByRecursion (IsOfStream stream) acts × Leaves false stream (connection_of s) acts (connection_of after)) → OnStreams w h w1 h1 slots new
+      → Traces performs steps w h w1 h1 (λ acts. AllByRecursion (IsOfStream stream) acts × Leaves false stream (connection_of s) acts (connection_of after) × IsTimed acts) → OnStreams w h w1 h1 slots new
   on_stream slots new stream s after w w1 h h1 here is happened = record {
     acts = happened.acts;
     leads = happened.leads;
-    holds = (of_stream_is_aside stream happened.acts happened.holds.0, stream_followed slots new stream s after happened.acts here is happened.holds.0 happened.holds.1);
+    holds = (of_stream_is_aside stream happened.acts happened.holds.0, stream_followed slots new stream s after happened.acts here is happened.holds.0 happened.holds.1, happened.holds.2);
   }
 
   -- a connection goes on, and is closed
   pub on_closed : (slots mid new : List (Option Stream)) (stream : ℕ) (s after : Stream) (w w1 w2 : S) (h h1 : H) → slice_get slots stream ≡ Some (Some s) → mid ≡ slice_set slots stream (Some after)
-      → Traces performs steps w h w1 h1 (λ acts. AllByRecursion (IsOfStream stream) acts × Leaves true stream (connection_of s) acts (connection_of after)) → performs w1 (Closed stream) w2 → new ≡ closed_at mid stream
+      → Traces performs steps w h w1 h1 (λ acts. AllByRecursion (IsOfStream stream) acts × Leaves true stream (connection_of s) acts (connection_of after) × IsTimed acts) → performs w1 (Closed stream) w2 → new ≡ closed_at mid stream
       → OnStreams w h w2 h1 slots new
   on_closed slots mid new stream s after w w1 w2 h h1 here is happened step closed = record {
     acts = happened.acts ++ At (Closed stream) ∷ [];
@@ -346,6 +352,7 @@ module _ {S H : Type 0} (performs : S → WorldEvent → S → Type 0) (steps : 
       all_more IsAside happened.acts (At (Closed stream) ∷ []) (of_stream_is_aside stream happened.acts happened.holds.0) (tt, tt),
       subst (λ (left : List (Option Stream)). AreFollowed slots left (happened.acts ++ At (Closed stream) ∷ [])) (sym closed)
           (stream_closed slots mid stream s after happened.acts here is happened.holds.0 happened.holds.1),
+      timed_both happened.acts (At (Closed stream) ∷ []) happened.holds.2 (λ shown. (tt, tt)),
     );
   }
 

@@ -1,15 +1,19 @@
 -- What becomes of deliveries, one after another.
-use Rattle.std.proofs.Common.{◌≡◌, ◌∙◌, ◌-◌, ◌+◌, ◌<◌, ◌≤◌, ℕ, suc, List, [], ◌∷◌, ◌++◌, drop, get_or, length, map, take, refl, sym, ap, subst, arith}
+use Rattle.std.proofs.Common.{Bool, true, false, ◌≡◌, ◌∙◌, ◌-◌, ◌+◌, ◌<◌, ◌≤◌, ℕ, suc, List, [], ◌∷◌, ◌++◌, drop, get_or, length, map, take, refl, sym, ap, subst, arith}
 use Rattle.std.proofs.lemmas.List.{append-nil, append_assoc, map-append, take_all, take_more}
+use Rattle.std.specs.Global.{Vec}
+use Rattle.std.specs.Prelude.{Option, None, Result, Ok, Err, is_err}
+use Rattle.std.specs.declared.alloc.AllocError.{AllocError}
+use Rattle.std.specs.declared.io.Error.{Error}
 use Rattle.std.specs.declared.net.socket_addr.SocketAddr.{SocketAddr}
 use Rattle.dns_faults.specs.declared.delivery.Delivery.{Delivery}
-use Rattle.dns_sockets.specs.Datagrams.{AreSteps, Delivers, DeliversAll, Handles, IsReceive, IsTurn, Receives, ReceivesBy, TurnStep, Receive, Handle, content_at, peer_of}
-use Rattle.dns_sockets.specs.Handler.{HandlerEvent, RequestContent, request_content}
+use Rattle.dns_sockets.specs.Datagrams.{AreSteps, Delivers, DeliversAll, Handles, IsReceive, IsTurn, IsTurnUnless, Receives, ReceivesBy, TurnStep, Receive, Handle, peer_of, taken_if}
+use Rattle.dns_sockets.specs.Handler.{HandlerEvent, deliveries_if}
 use Rattle.dns_sockets.specs.Events.{Performs}
-use Rattle.dns_sockets.specs.Trace.{Act, At, By, Socket, Traces}
+use Rattle.dns_sockets.specs.Trace.{Act, At, By, Consults, Socket, Traces}
 use Rattle.dns_sockets.specs.declared.handler.Request.{Request}
 use Rattle.dns_sockets.specs.World.{WorldEvent}
-use Rattle.dns_sockets.proofs.TraceLaws.{leads_both, leads_by}
+use Rattle.dns_sockets.proofs.TraceLaws.{leads_both, leads_consulted}
 use Rattle.dns_sockets.specs.declared.datagrams.Datagram.{Datagram}
 use Rattle.dns_sockets.specs.declared.datagrams.WaitingReply.{WaitingReply}
 use Rattle.dns_sockets.specs.schedule.Schedule.{ScheduleContent}
@@ -54,31 +58,31 @@ delivered_to_all index now (x ∷ left) all items deliveries start at done none 
 
 -- ---- requests
 
--- one more datagram is a request
-pub requests_more : (now i : ℕ) (datagrams : List Datagram) (default : Datagram) (requests more : List Request) (r : Request) → i < length datagrams → more ≡ requests ++ r ∷ []
-    → request_content r ≡ content_at now (get_or datagrams i default) → map request_content requests ≡ map (content_at now) (take i datagrams)
-    → map request_content more ≡ map (content_at now) (take (i + 1) datagrams)
-requests_more now i datagrams default requests more r below is one so_far =
-    ap (map request_content) is ∙ map-append request_content requests (r ∷ [])
-    ∙ (λ j. so_far j ++ one j ∷ [])
-    ∙ sym (map-append (content_at now) (take i datagrams) (get_or datagrams i default ∷ []))
-    ∙ ap (map (content_at now)) (sym (take_more datagrams i default below))
+-- without memory there is no delivery
+pub no_deliveries : (result : Result (Vec Delivery) AllocError) → is_err result ≡ true → deliveries_if result ≡ None
+no_deliveries (Ok deliveries) fails = absurd (cc fails)
+no_deliveries (Err error) fails = refl
 
--- all datagrams are requests
-pub requests_whole : (now i : ℕ) (datagrams : List Datagram) (requests : List Request) → length datagrams ≤ i → map request_content requests ≡ map (content_at now) (take i datagrams)
-    → map request_content requests ≡ map (content_at now) datagrams
-requests_whole now i datagrams requests all so_far = so_far ∙ ap (map (content_at now)) (take_all i datagrams all)
+-- and where the clock fails, it is not known whether a response is expected
+pub not_known : (result : Result Bool Error) → is_err result ≡ true → taken_if result ≡ None
+not_known (Ok is_taken) fails = absurd (cc fails)
+not_known (Err error) fails = refl
+
+-- there are none
+pub none_gathered : (gathered : List Datagram) → length gathered ≡ 0 → gathered ≡ []
+none_gathered [] none = refl
+none_gathered (x ∷ gathered) none = absurd (omega (arith, none))
 
 -- ---- turns
 
-module _ (index now : ℕ) where
+module _ (index : ℕ) where
   -- steps after others
-  pub steps_append : (steps more : List TurnStep) (g g1 g2 : List Datagram) (w w1 w2 : Waiting) (acts rest : List Act) → AreSteps index now steps g w acts g1 w1 → AreSteps index now more g1 w1 rest g2 w2
-      → AreSteps index now (steps ++ more) g w (acts ++ rest) g2 w2
+  pub steps_append : (steps more : List TurnStep) (g g1 g2 : List Datagram) (w w1 w2 : Waiting) (acts rest : List Act) → AreSteps index steps g w acts g1 w1 → AreSteps index more g1 w1 rest g2 w2
+      → AreSteps index (steps ++ more) g w (acts ++ rest) g2 w2
   steps_append [] more g g1 g2 w w1 w2 acts rest first then =
-      subst (λ (l : List Act). AreSteps index now more g w (l ++ rest) g2 w2) (sym first.0)
-      (subst (λ (v : Waiting). AreSteps index now more g v rest g2 w2) first.1.1
-      (subst (λ (d : List Datagram). AreSteps index now more d w1 rest g2 w2) first.1.0 then))
+      subst (λ (l : List Act). AreSteps index more g w (l ++ rest) g2 w2) (sym first.0)
+      (subst (λ (v : Waiting). AreSteps index more g v rest g2 w2) first.1.1
+      (subst (λ (d : List Datagram). AreSteps index more d w1 rest g2 w2) first.1.0 then))
   steps_append (Receive one ∷ steps) more g g1 g2 w w1 w2 acts rest first then =
       let d = first in
       (d.0, d.1 ++ rest, (ap (λ (l : List Act). l ++ rest) d.2.0 ∙ append_assoc one d.1 rest, (d.2.1.0, steps_append steps more d.0 g1 g2 w w1 w2 d.1 rest d.2.1.1 then)))
@@ -87,20 +91,20 @@ module _ (index now : ℕ) where
       (d.0, d.1 ++ rest, (ap (λ (l : List Act). l ++ rest) d.2.0 ∙ append_assoc one d.1 rest, (d.2.1.0, steps_append steps more [] g1 g2 d.0 w1 w2 d.1 rest d.2.1.1 then)))
 
   -- no step
-  pub no_step : (g : List Datagram) (w : Waiting) → IsTurn index now g w g w []
+  pub no_step : (g : List Datagram) (w : Waiting) → IsTurn index g w g w []
   no_step g w = ([], (refl, (refl, refl)))
 
   -- a receive
-  pub one_receive : (g g1 : List Datagram) (w : Waiting) (acts : List Act) → Receives index now g acts g1 → IsTurn index now g w g1 w acts
+  pub one_receive : (g g1 : List Datagram) (w : Waiting) (acts : List Act) → Receives index g acts g1 → IsTurn index g w g1 w acts
   one_receive g g1 w acts received = (Receive acts ∷ [], (g1, [], (sym (append-nil acts), (received, (refl, (refl, refl))))))
 
   -- datagrams are handled
-  pub one_handled : (g : List Datagram) (w w1 : Waiting) (acts : List Act) → Handles index now g w acts w1 → IsTurn index now g w [] w1 acts
+  pub one_handled : (g : List Datagram) (w w1 : Waiting) (acts : List Act) → Handles index g w acts w1 → IsTurn index g w [] w1 acts
   one_handled g w w1 acts handled = (Handle acts ∷ [], (w1, [], (sym (append-nil acts), (handled, (refl, (refl, refl))))))
 
   -- a turn goes on
   pub turns_append : {S H : Type 0} (performs : S → WorldEvent → S → Type 0) (steps : H → HandlerEvent → H → Type 0) (s s1 s2 : S) (h h1 h2 : H) (g g1 g2 : List Datagram) (w w1 w2 : Waiting)
-      → Traces performs steps s h s1 h1 (IsTurn index now g w g1 w1) → Traces performs steps s1 h1 s2 h2 (IsTurn index now g1 w1 g2 w2) → Traces performs steps s h s2 h2 (IsTurn index now g w g2 w2)
+      → Traces performs steps s h s1 h1 (IsTurn index g w g1 w1) → Traces performs steps s1 h1 s2 h2 (IsTurn index g1 w1 g2 w2) → Traces performs steps s h s2 h2 (IsTurn index g w g2 w2)
   turns_append performs steps s s1 s2 h h1 h2 g g1 g2 w w1 w2 first then = record {
     acts = first.acts ++ then.acts;
     leads = leads_both performs steps s s1 s2 h h1 h2 first.acts then.acts first.leads then.leads;
@@ -109,23 +113,41 @@ module _ (index now : ℕ) where
 
   -- a receive is a turn
   pub turn_received : {S H : Type 0} (performs : S → WorldEvent → S → Type 0) (steps : H → HandlerEvent → H → Type 0) (s s1 : S) (h h1 : H) (g g1 : List Datagram) (w : Waiting)
-      → Traces performs steps s h s1 h1 (λ acts. Receives index now g acts g1) → Traces performs steps s h s1 h1 (IsTurn index now g w g1 w)
+      → Traces performs steps s h s1 h1 (λ acts. Receives index g acts g1) → Traces performs steps s h s1 h1 (IsTurn index g w g1 w)
   turn_received performs steps s s1 h h1 g g1 w received = record { acts = received.acts; leads = received.leads; holds = one_receive g g1 w received.acts received.holds }
 
   -- and so is what becomes of all that were gathered
   pub turn_handled : {S H : Type 0} (performs : S → WorldEvent → S → Type 0) (steps : H → HandlerEvent → H → Type 0) (s s1 : S) (h h1 : H) (g same : List Datagram) (w w1 : Waiting) → same ≡ g
-      → Traces performs steps s h s1 h1 (λ acts. Handles index now same w acts w1) → Traces performs steps s h s1 h1 (IsTurn index now g w [] w1)
+      → Traces performs steps s h s1 h1 (λ acts. Handles index same w acts w1) → Traces performs steps s h s1 h1 (IsTurn index g w [] w1)
   turn_handled performs steps s s1 h h1 g same w w1 is handled = record {
     acts = handled.acts;
     leads = handled.leads;
-    holds = one_handled g w w1 handled.acts (subst (λ (ds : List Datagram). Handles index now ds w handled.acts w1) is handled.holds);
+    holds = one_handled g w w1 handled.acts (subst (λ (ds : List Datagram). Handles index ds w handled.acts w1) is handled.holds);
   }
 
   -- a receive, and what its handler makes of it
-  pub received : {S H : Type 0} (performs : S → WorldEvent → S → Type 0) (steps : H → HandlerEvent → H → Type 0) (s s1 : S) (h h1 : H) (g g1 : List Datagram) (e : WorldEvent) → IsReceive index e → performs s e s1
-      → Performs steps h h1 (λ calls. ReceivesBy now e g calls g1) → Traces performs steps s h s1 h1 (λ acts. Receives index now g acts g1)
-  received performs steps s s1 h h1 g g1 e is one called = record {
-    acts = At e ∷ map (By (Socket index)) called.events;
-    leads = (s1, (one, leads_by performs steps (Socket index) s1 h h1 called.events called.led));
-    holds = (e, called.events, (refl, (is, called.holds)));
+  pub received : {S H : Type 0} (performs : S → WorldEvent → S → Type 0) (steps : H → HandlerEvent → H → Type 0) (s s1 s2 : S) (h h1 : H) (g g1 : List Datagram) (e : WorldEvent) → IsReceive index e → performs s e s1
+      → Consults performs steps s1 h s2 h1 (λ clocks calls. ReceivesBy e g clocks calls g1) → Traces performs steps s h s2 h1 (λ acts. Receives index g acts g1)
+  received performs steps s s1 s2 h h1 g g1 e is one called = record {
+    acts = At e ∷ map At called.events ++ map (By (Socket index)) called.calls;
+    leads = (s1, (one, leads_consulted performs steps (Socket index) s1 s2 h h1 called.events called.calls called.led called.called));
+    holds = (e, called.events, called.calls, (refl, (is, called.holds)));
   }
+
+  -- a turn that fails
+  pub fails_turn : {S H : Type 0} (performs : S → WorldEvent → S → Type 0) (steps : H → HandlerEvent → H → Type 0) (fails : Bool) (s s1 : S) (h h1 : H) (w w1 : Waiting) (lost : List Datagram) → fails ≡ true
+      → Traces performs steps s h s1 h1 (IsTurn index [] w lost w1) → Traces performs steps s h s1 h1 (IsTurnUnless fails index w w1)
+  fails_turn performs steps fails s s1 h h1 w w1 lost is turn = record {
+    acts = turn.acts;
+    leads = turn.leads;
+    holds = subst (λ (b : Bool). IsTurnUnless b index w w1 turn.acts) (sym is) (lost, turn.holds);
+  }
+
+  -- one at whose end no datagram is left
+  pub ends_turn : {S H : Type 0} (performs : S → WorldEvent → S → Type 0) (steps : H → HandlerEvent → H → Type 0) (fails : Bool) (s s1 : S) (h h1 : H) (w w1 : Waiting)
+      → Traces performs steps s h s1 h1 (IsTurn index [] w [] w1) → Traces performs steps s h s1 h1 (IsTurnUnless fails index w w1)
+  ends_turn performs steps fails s s1 h h1 w w1 turn = record { acts = turn.acts; leads = turn.leads; holds = by fails turn.holds }
+    where
+      by : (b : Bool) → IsTurn index [] w [] w1 turn.acts → IsTurnUnless b index w w1 turn.acts
+      by true all = ([], all)
+      by false all = all

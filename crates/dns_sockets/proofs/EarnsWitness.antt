@@ -3,18 +3,18 @@ use Rattle.std.proofs.Common.{◌≡◌, ℕ, Bool, true, false, List, [], ◌�
 use Rattle.std.specs.Global.{Vec}
 use Rattle.std.specs.declared.net.socket_addr.SocketAddr.{SocketAddr}
 use Rattle.dns_faults.specs.declared.delivery.Delivery.{Delivery}
-use Rattle.dns_sockets.specs.Datagrams.{Gathers, Handle, Handles, IsTurn, Receive, TakesIf, are_handled, content_at, datagram_at, datagram_content}
+use Rattle.dns_sockets.specs.Datagrams.{Gathers, Handle, HandlesAt, IsTurn, Receive, TakesIf, are_handled, content_at, datagram_content}
 use Rattle.dns_sockets.specs.Handler.{Handled}
 use Rattle.dns_sockets.specs.Ledger.{AllPaid, Earns, replies as counted, requests}
 use Rattle.dns_sockets.specs.Notices.{is_response}
 use Rattle.dns_sockets.specs.Sent.{IsGiven}
 use Rattle.dns_sockets.specs.Sent.IsGiven.{as_notice, as_reply}
 use Rattle.dns_sockets.specs.Trace.{Act, At, By, Socket}
-use Rattle.dns_sockets.specs.World.{Received, Sent}
+use Rattle.dns_sockets.specs.World.{Clocked, Received, Sent}
 use Rattle.dns_sockets.specs.declared.datagrams.Datagram.{Datagram}
 use Rattle.dns_sockets.specs.declared.datagrams.WaitingReply.{WaitingReply}
 use Rattle.dns_sockets.specs.schedule.Schedule.{ScheduleContent}
-use Rattle.dns_sockets.proofs.LedgerLaws.{turn_earns}
+use Rattle.dns_sockets.proofs.LedgerLaws.{earns_unclocked, turn_earns}
 use Rattle.dns_sockets.proofs.SentLaws.{given}
 
 module _ (first second : SocketAddr) (question reply other : Vec ℕ) (asks : is_response question.items ≡ false) where
@@ -41,7 +41,11 @@ module _ (first second : SocketAddr) (question reply other : Vec ℕ) (asks : is
   abbrev pub acts : List Act
   acts = arrived first ++ arrived second ++ replies
 
-  handled : Handles 0 5 (from first ∷ from second ∷ []) none_waits replies none_waits
+  -- the same with the reading of the clock that shows the moment of the requests
+  abbrev pub clocked : List Act
+  clocked = arrived first ++ arrived second ++ At (Clocked (Some 5)) ∷ replies
+
+  handled : HandlesAt (Some 5) 0 (from first ∷ from second ∷ []) none_waits replies none_waits
   handled = (
     Some (once ∷ twice ∷ []),
     are_handled 5 (from first ∷ from second ∷ []) (Some (once ∷ twice ∷ [])) ∷ [],
@@ -71,23 +75,29 @@ module _ (first second : SocketAddr) (question reply other : Vec ℕ) (asks : is
     ),
   )
 
-  gathers : (peer : SocketAddr) (old new : List Datagram) → map datagram_content new ≡ map datagram_content old ++ (peer, question.items) ∷ [] → Gathers (datagram_at question.items peer 5) old [] new
-  gathers peer old new added = (false, (subst (λ (b : Bool). TakesIf b (datagram_at question.items peer 5) [] false) (sym asks) (refl, refl), inr added))
+  gathers : (peer : SocketAddr) (old new : List Datagram) → map datagram_content new ≡ map datagram_content old ++ (peer, question.items) ∷ [] → Gathers question.items peer old [] [] new
+  gathers peer old new added = (Some false, (subst (λ (b : Bool). TakesIf b question.items peer [] [] (Some false)) (sym asks) (refl, (refl, refl)), inr added))
 
-  turn : IsTurn 0 5 [] none_waits [] none_waits acts
+  pub turn : IsTurn 0 [] none_waits [] none_waits clocked
   turn = (
-    Receive (arrived first) ∷ Receive (arrived second) ∷ Handle replies ∷ [],
+    Receive (arrived first) ∷ Receive (arrived second) ∷ Handle (At (Clocked (Some 5)) ∷ replies) ∷ [],
     (
       from first ∷ [],
-      arrived second ++ replies,
+      arrived second ++ At (Clocked (Some 5)) ∷ replies,
       (
         refl,
         (
-          (Received 0 question.items first, [], (refl, (refl, gathers first [] (from first ∷ []) refl))),
+          (Received 0 question.items first, [], [], (refl, (refl, gathers first [] (from first ∷ []) refl))),
           (
             from first ∷ from second ∷ [],
-            replies,
-            (refl, ((Received 0 question.items second, [], (refl, (refl, gathers second (from first ∷ []) (from first ∷ from second ∷ []) refl))), (none_waits, [], (refl, (handled, (refl, (refl, refl))))))),
+            At (Clocked (Some 5)) ∷ replies,
+            (
+              refl,
+              (
+                (Received 0 question.items second, [], [], (refl, (refl, gathers second (from first ∷ []) (from first ∷ from second ∷ []) refl))),
+                (none_waits, [], (refl, (inr (Some 5, replies, (refl, handled)), (refl, (refl, refl))))),
+              ),
+            ),
           ),
         ),
       ),
@@ -96,7 +106,7 @@ module _ (first second : SocketAddr) (question reply other : Vec ℕ) (asks : is
 
   -- the premise of the law is met
   pub earned : Earns [] [] acts
-  earned = turn_earns 0 5 none_waits none_waits acts turn
+  earned = earns_unclocked [] [] (Some 5) (arrived first ++ arrived second) replies (turn_earns 0 none_waits none_waits [] clocked turn)
 
   -- with one for each datagram, a reply more is not paid: its conclusion says something
   pub one_more_is_not_paid : AllPaid (counted (record { of = λ socket peer bytes. 1; most = λ peer bytes. 1; bounded = λ socket peer bytes. omega arith })) 0 (acts ++ At (Sent 0 other.items second true) ∷ At (Sent 0 other.items second true) ∷ []) → ⊥

@@ -6,13 +6,13 @@ use Rattle.std.specs.Global.{Vec}
 use Rattle.std.specs.List.{AllByRecursion}
 use Rattle.std.specs.declared.net.socket_addr.SocketAddr.{SocketAddr}
 use Rattle.dns_faults.specs.declared.delivery.Delivery.{Delivery}
-use Rattle.dns_sockets.specs.Datagrams.{AreSent, AreSteps, DeliversAll, DeliversAt, DeliversIf, DeliversReply, HandlesIf, Handles, Handle, GathersIf, IsAddedOrLost, IsEmpty, IsReceive, IsTurn, Receive, Receives, ReceivesBy, TakesIf, TurnStep, content_at, datagram_at, datagram_content, peer_of, waiting_reply}
-use Rattle.dns_sockets.specs.Handler.{HandlerEvent, Handled, NoticeContent, Noticed, RequestContent}
+use Rattle.dns_sockets.specs.Datagrams.{AreSent, AreSteps, DeliversAll, DeliversAt, DeliversIf, DeliversReply, HandlesAt, HandlesIf, Handles, Handle, GathersIf, IsAddedOrLost, IsReceive, IsTurn, Receive, Receives, ReceivesBy, TakesIf, TurnStep, content_at, datagram_at, datagram_content, peer_of, waiting_reply}
+use Rattle.dns_sockets.specs.Handler.{HandlerEvent, Handled, NoticeContent, Noticed, RequestContent, Took}
 use Rattle.dns_sockets.specs.Ledger.{AllPaid, Book, Earns, EarnsReplies, HandlesArrived, Weight, deliveries_worth, event_cost, left_of, replies, requests, requests_worth, reply_worth, waiting_worth}
 use Rattle.dns_sockets.specs.Notices.{AreNotices, AreTries, IsNotice, is_response}
 use Rattle.dns_sockets.specs.Stream.{later_by}
 use Rattle.dns_sockets.specs.Trace.{Act, At, By, Connection, IsAside, IsAsideEvent, Nowhere, Socket}
-use Rattle.dns_sockets.proofs.TraceLaws.{all_more}
+use Rattle.dns_sockets.proofs.TraceLaws.{all_become, all_more}
 use Rattle.dns_sockets.specs.World.{WorldEvent, AreCopies, Accepted, Admitted, Clocked, Closed, IsSent, Read, Received, Sent, Unreceived, Waited, Woken, Written}
 use Rattle.dns_sockets.specs.declared.datagrams.Datagram.{Datagram}
 use Rattle.dns_sockets.specs.declared.datagrams.WaitingReply.{WaitingReply}
@@ -90,9 +90,27 @@ aside_is_free f (By (Connection stream) e) aside = (refl, refl)
 aside_is_free f (By (Socket socket) e) aside = absurd aside
 aside_is_free f (By Nowhere e) aside = absurd aside
 
-pub all_free : (f : Weight) (acts : List Act) → AllByRecursion IsAside acts → AllByRecursion (IsFree (replies f)) acts
-all_free f [] all = tt
-all_free f (x ∷ xs) all = (aside_is_free f x all.0, all_free f xs all.1)
+-- a reading of the clock, and a call that takes a response
+taken_free : (k : Book) (index : ℕ) → ((shown : Option ℕ) → IsFree k (At (Clocked shown))) → ((r : RequestContent) (is_taken : Bool) → IsFree k (By (Socket index) (Took r is_taken)))
+    → (b : Bool) (bytes : List ℕ) (peer : SocketAddr) (clocks : List WorldEvent) (calls : List HandlerEvent) (taken : Option Bool) → TakesIf b bytes peer clocks calls taken
+    → AllByRecursion (IsFree k) (map At clocks ++ map (By (Socket index)) calls)
+taken_free k index clock took true bytes peer clocks calls None takes =
+    subst (λ (es : List WorldEvent). AllByRecursion (IsFree k) (map At es ++ map (By (Socket index)) calls)) (sym takes.0)
+    (subst (λ (l : List HandlerEvent). AllByRecursion (IsFree k) (At (Clocked None) ∷ map (By (Socket index)) l)) (sym takes.1) (clock None, tt))
+taken_free k index clock took true bytes peer clocks calls (Some is_taken) takes =
+    let now = takes.0 in
+    subst (λ (es : List WorldEvent). AllByRecursion (IsFree k) (map At es ++ map (By (Socket index)) calls)) (sym takes.1.0)
+    (subst (λ (l : List HandlerEvent). AllByRecursion (IsFree k) (At (Clocked (Some now)) ∷ map (By (Socket index)) l)) (sym takes.1.1)
+    (clock (Some now), (took (datagram_at bytes peer now) is_taken, tt)))
+taken_free k index clock took false bytes peer clocks calls taken takes =
+    subst (λ (es : List WorldEvent). AllByRecursion (IsFree k) (map At es ++ map (By (Socket index)) calls)) (sym takes.0)
+    (subst (λ (l : List HandlerEvent). AllByRecursion (IsFree k) (map (By (Socket index)) l)) (sym takes.1.0) tt)
+
+-- neither
+none_free : (k : Book) (index : ℕ) (clocks : List WorldEvent) (calls : List HandlerEvent) → clocks ≡ [] → calls ≡ [] → AllByRecursion (IsFree k) (map At clocks ++ map (By (Socket index)) calls)
+none_free k index clocks calls none no_call =
+    subst (λ (es : List WorldEvent). AllByRecursion (IsFree k) (map At es ++ map (By (Socket index)) calls)) (sym none)
+    (subst (λ (l : List HandlerEvent). AllByRecursion (IsFree k) (map (By (Socket index)) l)) (sym no_call) tt)
 
 -- ---- copies of a datagram
 
@@ -214,10 +232,6 @@ deliver_all f index now (datagram ∷ more) (d ∷ ds) old new es delivers =
 
 -- ---- requests
 
-none_delivered : (index now : ℕ) (gathered : List Datagram) (old new : ScheduleContent WaitingReply) (es : List WorldEvent) → DeliversAll index now (map peer_of gathered) [] old es new → (es ≡ []) × (new ≡ old)
-none_delivered index now [] old new es delivers = delivers
-none_delivered index now (datagram ∷ more) old new es delivers = delivers
-
 handle_some : (f : Weight) (index now : ℕ) (gathered : List Datagram) (outcome : Option (List Delivery)) (old new : ScheduleContent WaitingReply) (es : List WorldEvent) → DeliversIf index now (map peer_of gathered) outcome old es new
     → Pays (replies f) (By (Socket index) (Handled (map (content_at now) gathered) outcome) ∷ map At es) (waiting_worth f old.items) (waiting_worth f new.items)
 handle_some f index now gathered None old new es delivers =
@@ -231,12 +245,11 @@ handle_some f index now gathered (Some ds) old new es delivers =
     pays_both (replies f) (act ∷ []) (map At es) w (brings + w) (waiting_worth f new.items) (pays_less (replies f) (act ∷ []) (0 + w) (brings + w) w (brings + w) (omega arith) (omega arith) (pays_one (replies f) act w))
     (deliver_all f index now gathered ds old new es delivers)
 
-handle_none : (f : Weight) (index now : ℕ) (gathered : List Datagram) (outcome : Option (List Delivery)) (old new : ScheduleContent WaitingReply) (es : List WorldEvent) → IsEmpty outcome
+handle_none : (f : Weight) (index now : ℕ) (gathered : List Datagram) (outcome : Option (List Delivery)) (old new : ScheduleContent WaitingReply) (es : List WorldEvent) → outcome ≡ None
     → DeliversIf index now (map peer_of gathered) outcome old es new → Pays (replies f) (map At es) (waiting_worth f old.items) (waiting_worth f new.items)
-handle_none f index now gathered None old new es empty delivers = pays_less (replies f) (map At es) (0 + waiting_worth f old.items) (waiting_worth f new.items) (waiting_worth f old.items) (waiting_worth f new.items) (omega arith) (omega arith) (no_delivery f 0 old new es delivers)
-handle_none f index now gathered (Some ds) old new es empty delivers =
-    pays_less (replies f) (map At es) (0 + waiting_worth f old.items) (waiting_worth f new.items) (waiting_worth f old.items) (waiting_worth f new.items) (omega arith) (omega arith)
-    (no_delivery f 0 old new es (none_delivered index now gathered old new es (subst (λ (l : List Delivery). DeliversAll index now (map peer_of gathered) l old es new) empty delivers)))
+handle_none f index now gathered outcome old new es none delivers =
+    let nothing = subst (λ (o : Option (List Delivery)). DeliversIf index now (map peer_of gathered) o old es new) none delivers in
+    pays_less (replies f) (map At es) (0 + waiting_worth f old.items) (waiting_worth f new.items) (waiting_worth f old.items) (waiting_worth f new.items) (omega arith) (omega arith) (no_delivery f 0 old new es nothing)
 
 handle_if : (f : Weight) (index now : ℕ) (gathered : List Datagram) (outcome : Option (List Delivery)) (calls : List HandlerEvent) (old new : ScheduleContent WaitingReply) (es : List WorldEvent)
     → HandlesIf now gathered calls outcome → DeliversIf index now (map peer_of gathered) outcome old es new
@@ -246,46 +259,57 @@ handle_if f index now gathered outcome calls old new es (inl one) delivers =
 handle_if f index now gathered outcome calls old new es (inr none) delivers =
     subst (λ (l : List HandlerEvent). Pays (replies f) (map (By (Socket index)) l ++ map At es) (waiting_worth f old.items) (waiting_worth f new.items)) (sym none.0) (handle_none f index now gathered outcome old new es none.1 delivers)
 
-handles : (f : Weight) (index now : ℕ) (gathered : List Datagram) (old new : ScheduleContent WaitingReply) (acts : List Act) → Handles index now gathered old acts new → Pays (replies f) acts (waiting_worth f old.items) (waiting_worth f new.items)
-handles f index now gathered old new acts handled =
+handles_at : (f : Weight) (shown : Option ℕ) (index : ℕ) (gathered : List Datagram) (old new : ScheduleContent WaitingReply) (acts : List Act) → HandlesAt shown index gathered old acts new
+    → Pays (replies f) acts (waiting_worth f old.items) (waiting_worth f new.items)
+handles_at f None index gathered old new acts handled =
+    subst (λ (l : List Act). Pays (replies f) l (waiting_worth f old.items) (waiting_worth f new.items)) (sym handled.0)
+    (subst (λ (w : ScheduleContent WaitingReply). Pays (replies f) [] (waiting_worth f old.items) (waiting_worth f w.items)) (sym handled.1) (pays_none (replies f) (waiting_worth f old.items)))
+handles_at f (Some now) index gathered old new acts handled =
     subst (λ (l : List Act). Pays (replies f) l (waiting_worth f old.items) (waiting_worth f new.items)) (sym handled.3.0) (handle_if f index now gathered handled.0 handled.1 old new handled.2 handled.3.1.0 handled.3.1.1)
 
-taken_free : (f : Weight) (index : ℕ) (r : RequestContent) (b : Bool) (calls : List HandlerEvent) (is_taken : Bool) → TakesIf b r calls is_taken → AllByRecursion (IsFree (replies f)) (map (By (Socket index)) calls)
-taken_free f index r true calls is_taken taken = subst (λ (l : List HandlerEvent). AllByRecursion (IsFree (replies f)) (map (By (Socket index)) l)) (sym taken) ((refl, refl), tt)
-taken_free f index r false calls is_taken taken = subst (λ (l : List HandlerEvent). AllByRecursion (IsFree (replies f)) (map (By (Socket index)) l)) (sym taken.0) tt
+handles : (f : Weight) (index : ℕ) (gathered : List Datagram) (old new : ScheduleContent WaitingReply) (acts : List Act) → Handles index gathered old acts new → Pays (replies f) acts (waiting_worth f old.items) (waiting_worth f new.items)
+handles f index gathered old new acts (inl none) =
+    subst (λ (l : List Act). Pays (replies f) l (waiting_worth f old.items) (waiting_worth f new.items)) (sym none.0)
+    (subst (λ (w : ScheduleContent WaitingReply). Pays (replies f) [] (waiting_worth f old.items) (waiting_worth f w.items)) (sym none.1.1) (pays_none (replies f) (waiting_worth f old.items)))
+handles f index gathered old new acts (inr some) =
+    subst (λ (l : List Act). Pays (replies f) l (waiting_worth f old.items) (waiting_worth f new.items)) (sym some.2.0)
+    (pays_both (replies f) (At (Clocked some.0) ∷ []) some.1 (waiting_worth f old.items) (waiting_worth f old.items) (waiting_worth f new.items)
+    (pays_free (replies f) (At (Clocked some.0) ∷ []) (waiting_worth f old.items) ((refl, refl), tt)) (handles_at f some.0 index gathered old new some.1 some.2.1))
 
-receive_free : (f : Weight) (index now : ℕ) (e : WorldEvent) (calls : List HandlerEvent) (old new : List Datagram) → IsReceive index e → ReceivesBy now e old calls new → AllByRecursion (IsFree (replies f)) (At e ∷ map (By (Socket index)) calls)
-receive_free f index now (Received socket bytes peer) calls old new is received = ((refl, refl), taken_free f index (datagram_at bytes peer now) (is_response bytes) calls received.0 received.1.0)
-receive_free f index now (Unreceived socket) calls old new is received = subst (λ (l : List HandlerEvent). AllByRecursion (IsFree (replies f)) (At (Unreceived socket) ∷ map (By (Socket index)) l)) (sym received.0) ((refl, refl), tt)
-receive_free f index now (Sent socket bytes peer taken) calls old new is received = absurd is
-receive_free f index now (Accepted listener peer) calls old new is received = absurd is
-receive_free f index now (Admitted stream admitted) calls old new is received = absurd is
-receive_free f index now (Closed stream) calls old new is received = absurd is
-receive_free f index now (Read stream bytes) calls old new is received = absurd is
-receive_free f index now (Written stream bytes) calls old new is received = absurd is
-receive_free f index now (Clocked moment) calls old new is received = absurd is
-receive_free f index now (Waited most) calls old new is received = absurd is
-receive_free f index now (Woken wake) calls old new is received = absurd is
+receive_free : (f : Weight) (index : ℕ) (e : WorldEvent) (old new : List Datagram) (clocks : List WorldEvent) (calls : List HandlerEvent) → IsReceive index e → ReceivesBy e old clocks calls new
+    → AllByRecursion (IsFree (replies f)) (At e ∷ map At clocks ++ map (By (Socket index)) calls)
+receive_free f index (Received socket bytes peer) old new clocks calls is received = ((refl, refl), taken_free (replies f) index (λ shown. (refl, refl)) (λ r is_taken. (refl, refl)) (is_response bytes) bytes peer clocks calls received.0 received.1.0)
+receive_free f index (Unreceived socket) old new clocks calls is received = ((refl, refl), none_free (replies f) index clocks calls received.0 received.1.0)
+receive_free f index (Sent socket bytes peer taken) old new clocks calls is received = absurd is
+receive_free f index (Accepted listener peer) old new clocks calls is received = absurd is
+receive_free f index (Admitted stream admitted) old new clocks calls is received = absurd is
+receive_free f index (Closed stream) old new clocks calls is received = absurd is
+receive_free f index (Read stream bytes) old new clocks calls is received = absurd is
+receive_free f index (Written stream bytes) old new clocks calls is received = absurd is
+receive_free f index (Clocked moment) old new clocks calls is received = absurd is
+receive_free f index (Waited most) old new clocks calls is received = absurd is
+receive_free f index (Woken wake) old new clocks calls is received = absurd is
 
-receives : (f : Weight) (index now : ℕ) (old new : List Datagram) (acts : List Act) (a : ℕ) → Receives index now old acts new → Pays (replies f) acts a a
-receives f index now old new acts a received =
-    subst (λ (l : List Act). Pays (replies f) l a a) (sym received.2.0) (pays_free (replies f) (At received.0 ∷ map (By (Socket index)) received.1) a (receive_free f index now received.0 received.1 old new received.2.1.0 received.2.1.1))
+receives : (f : Weight) (index : ℕ) (old new : List Datagram) (acts : List Act) (a : ℕ) → Receives index old acts new → Pays (replies f) acts a a
+receives f index old new acts a received =
+    subst (λ (l : List Act). Pays (replies f) l a a) (sym received.3.0)
+    (pays_free (replies f) (At received.0 ∷ map At received.1 ++ map (By (Socket index)) received.2) a (receive_free f index received.0 old new received.1 received.2 received.3.1.0 received.3.1.1))
 
 -- ---- turns
 
-pays_steps : (f : Weight) (index now : ℕ) (steps : List TurnStep) (g g1 : List Datagram) (old new : ScheduleContent WaitingReply) (acts : List Act) → AreSteps index now steps g old acts g1 new
+pays_steps : (f : Weight) (index : ℕ) (steps : List TurnStep) (g g1 : List Datagram) (old new : ScheduleContent WaitingReply) (acts : List Act) → AreSteps index steps g old acts g1 new
     → Pays (replies f) acts (waiting_worth f old.items) (waiting_worth f new.items)
-pays_steps f index now [] g g1 old new acts are =
+pays_steps f index [] g g1 old new acts are =
     subst (λ (l : List Act). Pays (replies f) l (waiting_worth f old.items) (waiting_worth f new.items)) (sym are.0)
     (subst (λ (w : ScheduleContent WaitingReply). Pays (replies f) [] (waiting_worth f old.items) (waiting_worth f w.items)) (sym are.1.1) (pays_none (replies f) (waiting_worth f old.items)))
-pays_steps f index now (Receive first ∷ steps) g g1 old new acts are =
+pays_steps f index (Receive first ∷ steps) g g1 old new acts are =
     subst (λ (l : List Act). Pays (replies f) l (waiting_worth f old.items) (waiting_worth f new.items)) (sym are.2.0)
-    (pays_both (replies f) first are.1 (waiting_worth f old.items) (waiting_worth f old.items) (waiting_worth f new.items) (receives f index now g are.0 first (waiting_worth f old.items) are.2.1.0)
-    (pays_steps f index now steps are.0 g1 old new are.1 are.2.1.1))
-pays_steps f index now (Handle first ∷ steps) g g1 old new acts are =
+    (pays_both (replies f) first are.1 (waiting_worth f old.items) (waiting_worth f old.items) (waiting_worth f new.items) (receives f index g are.0 first (waiting_worth f old.items) are.2.1.0)
+    (pays_steps f index steps are.0 g1 old new are.1 are.2.1.1))
+pays_steps f index (Handle first ∷ steps) g g1 old new acts are =
     subst (λ (l : List Act). Pays (replies f) l (waiting_worth f old.items) (waiting_worth f new.items)) (sym are.2.0)
-    (pays_both (replies f) first are.1 (waiting_worth f old.items) (waiting_worth f are.0.items) (waiting_worth f new.items) (handles f index now g old are.0 first are.2.1.0)
-    (pays_steps f index now steps [] g1 are.0 new are.1 are.2.1.1))
+    (pays_both (replies f) first are.1 (waiting_worth f old.items) (waiting_worth f are.0.items) (waiting_worth f new.items) (handles f index g old are.0 first are.2.1.0)
+    (pays_steps f index steps [] g1 are.0 new are.1 are.2.1.1))
 
 -- ---- datagrams without a request
 
@@ -352,34 +376,32 @@ aside_is_no_arrival (Clocked now) aside = tt
 aside_is_no_arrival (Waited most) aside = tt
 aside_is_no_arrival (Woken wake) aside = tt
 
-aside_handles_nothing : (g : ℕ → SocketAddr → List ℕ → ℕ) (acts : List Act) → AllByRecursion IsAside acts → AllByRecursion (IsFree (requests g)) acts
-aside_handles_nothing g [] all = tt
-aside_handles_nothing g (At e ∷ acts) all = (no_arrival_is_free g e (aside_is_no_arrival e all.0), aside_handles_nothing g acts all.1)
-aside_handles_nothing g (By (Connection stream) e ∷ acts) all = ((refl, refl), aside_handles_nothing g acts all.1)
-aside_handles_nothing g (By (Socket socket) e ∷ acts) all = absurd all.0
-aside_handles_nothing g (By Nowhere e ∷ acts) all = absurd all.0
+aside_handles : (g : ℕ → SocketAddr → List ℕ → ℕ) (act : Act) → IsAside act → IsFree (requests g) act
+aside_handles g (At e) aside = no_arrival_is_free g e (aside_is_no_arrival e aside)
+aside_handles g (By (Connection stream) e) aside = (refl, refl)
+aside_handles g (By (Socket socket) e) aside = absurd aside
+aside_handles g (By Nowhere e) aside = absurd aside
 
 -- a datagram is sent
 abbrev pub IsSending : WorldEvent → Type 0
 IsSending (Sent socket bytes peer is_taken) = ⊤
 IsSending event = ⊥
 
+sending_is_no_arrival : (e : WorldEvent) → IsSending e → IsNoArrival e
+sending_is_no_arrival (Sent socket bytes peer taken) is = tt
+sending_is_no_arrival (Received s b p) is = absurd is
+sending_is_no_arrival (Unreceived s) is = absurd is
+sending_is_no_arrival (Accepted l p) is = absurd is
+sending_is_no_arrival (Admitted s a) is = absurd is
+sending_is_no_arrival (Closed s) is = absurd is
+sending_is_no_arrival (Read s b) is = absurd is
+sending_is_no_arrival (Written s b) is = absurd is
+sending_is_no_arrival (Clocked n) is = absurd is
+sending_is_no_arrival (Waited m) is = absurd is
+sending_is_no_arrival (Woken w) is = absurd is
+
 sendings_are_no_arrivals : (es : List WorldEvent) → AllByRecursion IsSending es → AllByRecursion IsNoArrival es
-sendings_are_no_arrivals [] all = tt
-sendings_are_no_arrivals (e ∷ es) all = (by e all.0, sendings_are_no_arrivals es all.1)
-  where
-    by : (e : WorldEvent) → IsSending e → IsNoArrival e
-    by (Sent socket bytes peer taken) is = tt
-    by (Received s b p) is = absurd is
-    by (Unreceived s) is = absurd is
-    by (Accepted l p) is = absurd is
-    by (Admitted s a) is = absurd is
-    by (Closed s) is = absurd is
-    by (Read s b) is = absurd is
-    by (Written s b) is = absurd is
-    by (Clocked n) is = absurd is
-    by (Waited m) is = absurd is
-    by (Woken w) is = absurd is
+sendings_are_no_arrivals es all = all_become IsSending IsNoArrival sending_is_no_arrival es all
 
 sent_is_sending : (socket : ℕ) (bytes : List ℕ) (peer : SocketAddr) (e : WorldEvent) → IsSent socket bytes peer e → IsSending e
 sent_is_sending socket bytes peer (Sent index out to taken) is = tt
@@ -395,8 +417,7 @@ sent_is_sending socket bytes peer (Waited m) is = absurd is
 sent_is_sending socket bytes peer (Woken w) is = absurd is
 
 copies_are_sendings : (socket : ℕ) (bytes : List ℕ) (peer : SocketAddr) (es : List WorldEvent) → AllByRecursion (IsSent socket bytes peer) es → AllByRecursion IsSending es
-copies_are_sendings socket bytes peer [] all = tt
-copies_are_sendings socket bytes peer (e ∷ es) all = (sent_is_sending socket bytes peer e all.0, copies_are_sendings socket bytes peer es all.1)
+copies_are_sendings socket bytes peer es all = all_become (IsSent socket bytes peer) IsSending (sent_is_sending socket bytes peer) es all
 
 none_sent : (es : List WorldEvent) → es ≡ [] → AllByRecursion IsSending es
 none_sent es none = subst (λ (l : List WorldEvent). AllByRecursion IsSending l) (sym none) tt
@@ -459,38 +480,35 @@ added h peer bytes old new (inr more) =
     let one = one_gathered h (map datagram_content old) peer bytes in
     omega (arith, same, one)
 
-gathers : (h : SocketAddr → List ℕ → ℕ) (peer : SocketAddr) (bytes : List ℕ) (old new : List Datagram) (is_taken : Bool) → GathersIf is_taken peer bytes old new → gathered h new ≤ h peer bytes + gathered h old
-gathers h peer bytes old new true same = let is = ap (gathered h) same in omega (arith, is)
-gathers h peer bytes old new false more = added h peer bytes old new more
+gathers : (h : SocketAddr → List ℕ → ℕ) (peer : SocketAddr) (bytes : List ℕ) (old new : List Datagram) (taken : Option Bool) → GathersIf taken peer bytes old new → gathered h new ≤ h peer bytes + gathered h old
+gathers h peer bytes old new None same = let is = ap (gathered h) same in omega (arith, is)
+gathers h peer bytes old new (Some true) same = let is = ap (gathered h) same in omega (arith, is)
+gathers h peer bytes old new (Some false) more = added h peer bytes old new more
 
-taken_handles_nothing : (g : ℕ → SocketAddr → List ℕ → ℕ) (index : ℕ) (r : RequestContent) (b : Bool) (calls : List HandlerEvent) (is_taken : Bool) → TakesIf b r calls is_taken
-    → AllByRecursion (IsFree (requests g)) (map (By (Socket index)) calls)
-taken_handles_nothing g index r true calls is_taken taken = subst (λ (l : List HandlerEvent). AllByRecursion (IsFree (requests g)) (map (By (Socket index)) l)) (sym taken) ((refl, refl), tt)
-taken_handles_nothing g index r false calls is_taken taken = subst (λ (l : List HandlerEvent). AllByRecursion (IsFree (requests g)) (map (By (Socket index)) l)) (sym taken.0) tt
-
-arrives : (g : ℕ → SocketAddr → List ℕ → ℕ) (index now : ℕ) (e : WorldEvent) (calls : List HandlerEvent) (old new : List Datagram) → IsReceive index e → ReceivesBy now e old calls new
-    → Pays (requests g) (At e ∷ map (By (Socket index)) calls) (gathered (g index) old) (gathered (g index) new)
-arrives g index now (Received socket bytes peer) calls old new is received =
+arrives : (g : ℕ → SocketAddr → List ℕ → ℕ) (index : ℕ) (e : WorldEvent) (old new : List Datagram) (clocks : List WorldEvent) (calls : List HandlerEvent) → IsReceive index e → ReceivesBy e old clocks calls new
+    → Pays (requests g) (At e ∷ map At clocks ++ map (By (Socket index)) calls) (gathered (g index) old) (gathered (g index) new)
+arrives g index (Received socket bytes peer) old new clocks calls is received =
     let act = At (Received socket bytes peer) in
+    let rest = map At clocks ++ map (By (Socket index)) calls in
     let w = gathered (g index) old in
     let more = gathers (g index) peer bytes old new received.0 received.1.1 in
     let brings : g socket peer bytes ≡ g index peer bytes = ap (λ (n : ℕ). g n peer bytes) is in
-    pays_both (requests g) (act ∷ []) (map (By (Socket index)) calls) w (gathered (g index) new) (gathered (g index) new)
+    pays_both (requests g) (act ∷ []) rest w (gathered (g index) new) (gathered (g index) new)
     (pays_less (requests g) (act ∷ []) (0 + w) (g socket peer bytes + w) w (gathered (g index) new) (omega arith) (omega (arith, more, brings)) (pays_one (requests g) act w))
-    (pays_free (requests g) (map (By (Socket index)) calls) (gathered (g index) new) (taken_handles_nothing g index (datagram_at bytes peer now) (is_response bytes) calls received.0 received.1.0))
-arrives g index now (Unreceived socket) calls old new is received =
+    (pays_free (requests g) rest (gathered (g index) new) (taken_free (requests g) index (λ shown. (refl, refl)) (λ r is_taken. (refl, refl)) (is_response bytes) bytes peer clocks calls received.0 received.1.0))
+arrives g index (Unreceived socket) old new clocks calls is received =
     let w = gathered (g index) old in
-    subst (λ (l : List HandlerEvent). Pays (requests g) (At (Unreceived socket) ∷ map (By (Socket index)) l) w (gathered (g index) new)) (sym received.0)
-    (subst (λ (ds : List Datagram). Pays (requests g) (At (Unreceived socket) ∷ []) w (gathered (g index) ds)) (sym received.1) (pays_free (requests g) (At (Unreceived socket) ∷ []) w ((refl, refl), tt)))
-arrives g index now (Sent socket bytes peer taken) calls old new is received = absurd is
-arrives g index now (Accepted listener peer) calls old new is received = absurd is
-arrives g index now (Admitted stream admitted) calls old new is received = absurd is
-arrives g index now (Closed stream) calls old new is received = absurd is
-arrives g index now (Read stream bytes) calls old new is received = absurd is
-arrives g index now (Written stream bytes) calls old new is received = absurd is
-arrives g index now (Clocked moment) calls old new is received = absurd is
-arrives g index now (Waited most) calls old new is received = absurd is
-arrives g index now (Woken wake) calls old new is received = absurd is
+    subst (λ (ds : List Datagram). Pays (requests g) (At (Unreceived socket) ∷ map At clocks ++ map (By (Socket index)) calls) w (gathered (g index) ds)) (sym received.1.1)
+    (pays_free (requests g) (At (Unreceived socket) ∷ map At clocks ++ map (By (Socket index)) calls) w ((refl, refl), none_free (requests g) index clocks calls received.0 received.1.0))
+arrives g index (Sent socket bytes peer taken) old new clocks calls is received = absurd is
+arrives g index (Accepted listener peer) old new clocks calls is received = absurd is
+arrives g index (Admitted stream admitted) old new clocks calls is received = absurd is
+arrives g index (Closed stream) old new clocks calls is received = absurd is
+arrives g index (Read stream bytes) old new clocks calls is received = absurd is
+arrives g index (Written stream bytes) old new clocks calls is received = absurd is
+arrives g index (Clocked moment) old new clocks calls is received = absurd is
+arrives g index (Waited most) old new clocks calls is received = absurd is
+arrives g index (Woken wake) old new clocks calls is received = absurd is
 
 handled_if : (g : ℕ → SocketAddr → List ℕ → ℕ) (index now : ℕ) (ds : List Datagram) (outcome : Option (List Delivery)) (calls : List HandlerEvent) → HandlesIf now ds calls outcome
     → Pays (requests g) (map (By (Socket index)) calls) (gathered (g index) ds) 0
@@ -503,24 +521,38 @@ handled_if g index now ds outcome calls (inr none) =
     subst (λ (l : List HandlerEvent). Pays (requests g) (map (By (Socket index)) l) (gathered (g index) ds) 0) (sym none.0)
     (pays_less (requests g) [] 0 0 (gathered (g index) ds) 0 (omega arith) (omega arith) (pays_none (requests g) 0))
 
-requests_steps : (g : ℕ → SocketAddr → List ℕ → ℕ) (index now : ℕ) (steps : List TurnStep) (ds ds1 : List Datagram) (old new : ScheduleContent WaitingReply) (acts : List Act) → AreSteps index now steps ds old acts ds1 new
+requests_at : (g : ℕ → SocketAddr → List ℕ → ℕ) (shown : Option ℕ) (index : ℕ) (ds : List Datagram) (old new : ScheduleContent WaitingReply) (acts : List Act) → HandlesAt shown index ds old acts new
+    → Pays (requests g) acts (gathered (g index) ds) 0
+requests_at g None index ds old new acts handled =
+    subst (λ (l : List Act). Pays (requests g) l (gathered (g index) ds) 0) (sym handled.0) (pays_less (requests g) [] 0 0 (gathered (g index) ds) 0 (omega arith) (omega arith) (pays_none (requests g) 0))
+requests_at g (Some now) index ds old new acts handled =
+    subst (λ (l : List Act). Pays (requests g) l (gathered (g index) ds) 0) (sym handled.3.0)
+    (pays_both (requests g) (map (By (Socket index)) handled.1) (map At handled.2) (gathered (g index) ds) 0 0 (handled_if g index now ds handled.0 handled.1 handled.3.1.0)
+    (pays_free (requests g) (map At handled.2) 0 (no_arrivals_are_free g handled.2 (sendings_are_no_arrivals handled.2 (outcome_is_sending index now (map peer_of ds) handled.0 old new handled.2 handled.3.1.1)))))
+
+requests_handled : (g : ℕ → SocketAddr → List ℕ → ℕ) (index : ℕ) (ds : List Datagram) (old new : ScheduleContent WaitingReply) (acts : List Act) → Handles index ds old acts new → Pays (requests g) acts (gathered (g index) ds) 0
+requests_handled g index ds old new acts (inl none) =
+    subst (λ (l : List Act). Pays (requests g) l (gathered (g index) ds) 0) (sym none.0) (pays_less (requests g) [] 0 0 (gathered (g index) ds) 0 (omega arith) (omega arith) (pays_none (requests g) 0))
+requests_handled g index ds old new acts (inr some) =
+    subst (λ (l : List Act). Pays (requests g) l (gathered (g index) ds) 0) (sym some.2.0)
+    (pays_both (requests g) (At (Clocked some.0) ∷ []) some.1 (gathered (g index) ds) (gathered (g index) ds) 0
+    (pays_free (requests g) (At (Clocked some.0) ∷ []) (gathered (g index) ds) ((refl, refl), tt)) (requests_at g some.0 index ds old new some.1 some.2.1))
+
+requests_steps : (g : ℕ → SocketAddr → List ℕ → ℕ) (index : ℕ) (steps : List TurnStep) (ds ds1 : List Datagram) (old new : ScheduleContent WaitingReply) (acts : List Act) → AreSteps index steps ds old acts ds1 new
     → Pays (requests g) acts (gathered (g index) ds) (gathered (g index) ds1)
-requests_steps g index now [] ds ds1 old new acts are =
+requests_steps g index [] ds ds1 old new acts are =
     subst (λ (l : List Act). Pays (requests g) l (gathered (g index) ds) (gathered (g index) ds1)) (sym are.0)
     (subst (λ (d : List Datagram). Pays (requests g) [] (gathered (g index) ds) (gathered (g index) d)) (sym are.1.0) (pays_none (requests g) (gathered (g index) ds)))
-requests_steps g index now (Receive first ∷ steps) ds ds1 old new acts are =
+requests_steps g index (Receive first ∷ steps) ds ds1 old new acts are =
+    let received = are.2.1.0 in
     subst (λ (l : List Act). Pays (requests g) l (gathered (g index) ds) (gathered (g index) ds1)) (sym are.2.0)
     (pays_both (requests g) first are.1 (gathered (g index) ds) (gathered (g index) are.0) (gathered (g index) ds1)
-    (subst (λ (l : List Act). Pays (requests g) l (gathered (g index) ds) (gathered (g index) are.0)) (sym are.2.1.0.2.0) (arrives g index now are.2.1.0.0 are.2.1.0.1 ds are.0 are.2.1.0.2.1.0 are.2.1.0.2.1.1))
-    (requests_steps g index now steps are.0 ds1 old new are.1 are.2.1.1))
-requests_steps g index now (Handle first ∷ steps) ds ds1 old new acts are =
-    let handled = are.2.1.0 in
+    (subst (λ (l : List Act). Pays (requests g) l (gathered (g index) ds) (gathered (g index) are.0)) (sym received.3.0) (arrives g index received.0 ds are.0 received.1 received.2 received.3.1.0 received.3.1.1))
+    (requests_steps g index steps are.0 ds1 old new are.1 are.2.1.1))
+requests_steps g index (Handle first ∷ steps) ds ds1 old new acts are =
     subst (λ (l : List Act). Pays (requests g) l (gathered (g index) ds) (gathered (g index) ds1)) (sym are.2.0)
-    (pays_both (requests g) first are.1 (gathered (g index) ds) 0 (gathered (g index) ds1)
-    (subst (λ (l : List Act). Pays (requests g) l (gathered (g index) ds) 0) (sym handled.3.0)
-    (pays_both (requests g) (map (By (Socket index)) handled.1) (map At handled.2) (gathered (g index) ds) 0 0 (handled_if g index now ds handled.0 handled.1 handled.3.1.0)
-    (pays_free (requests g) (map At handled.2) 0 (no_arrivals_are_free g handled.2 (sendings_are_no_arrivals handled.2 (outcome_is_sending index now (map peer_of ds) handled.0 old are.0 handled.2 handled.3.1.1))))))
-    (requests_steps g index now steps [] ds1 are.0 new are.1 are.2.1.1))
+    (pays_both (requests g) first are.1 (gathered (g index) ds) 0 (gathered (g index) ds1) (requests_handled g index ds old are.0 first are.2.1.0)
+    (requests_steps g index steps [] ds1 are.0 new are.1 are.2.1.1))
 
 notice_handles_nothing : (g : ℕ → SocketAddr → List ℕ → ℕ) (sockets now : ℕ) (notice : NoticeContent) (acts : List Act) → IsNotice sockets now notice acts → AllByRecursion (IsFree (requests g)) acts
 notice_handles_nothing g sockets now notice acts is =
@@ -581,13 +613,16 @@ earns_both old mid new xs ys first next = (replied, arrived)
         let is = left_both (requests g) xs ys credit in
         (paid_both (requests g) xs ys credit a.0 b.0, omega (arith, more, left, is))
 
--- a turn of a datagram socket
-pub turn_earns : (index now : ℕ) (old new : ScheduleContent WaitingReply) (acts : List Act) → IsTurn index now [] old [] new acts → Earns old.items new.items acts
-turn_earns index now old new acts turn = earns_if old.items new.items acts (λ f. pays_steps f index now turn.0 [] [] old new acts turn.1) (λ g. requests_steps g index now turn.0 [] [] old new acts turn.1)
+-- a turn of a datagram socket, at whose end some datagrams may be lost
+pub turn_earns : (index : ℕ) (old new : ScheduleContent WaitingReply) (lost : List Datagram) (acts : List Act) → IsTurn index [] old lost new acts → Earns old.items new.items acts
+turn_earns index old new lost acts turn =
+    earns_if old.items new.items acts (λ f. pays_steps f index turn.0 [] lost old new acts turn.1)
+    (λ g. pays_less (requests g) acts 0 (gathered (g index) lost) 0 0 (omega arith) (omega arith) (requests_steps g index turn.0 [] lost old new acts turn.1))
 
 -- what is about no datagram
 pub aside_earns : (ws : List (Waiting WaitingReply)) (acts : List Act) → AllByRecursion IsAside acts → Earns ws ws acts
-aside_earns ws acts all = earns_if ws ws acts (λ f. pays_free (replies f) acts (waiting_worth f ws) (all_free f acts all)) (λ g. pays_free (requests g) acts 0 (aside_handles_nothing g acts all))
+aside_earns ws acts all =
+    earns_if ws ws acts (λ f. pays_free (replies f) acts (waiting_worth f ws) (all_become IsAside (IsFree (replies f)) (aside_is_free f) acts all)) (λ g. pays_free (requests g) acts 0 (all_become IsAside (IsFree (requests g)) (aside_handles g) acts all))
 
 -- replies whose moment has come
 pub due_earns : (now : ℕ) (ws : List (Waiting WaitingReply)) (es : List WorldEvent) → AreSent (all_due now ws) es → Earns ws (all_left now ws) (map At es)
@@ -598,3 +633,22 @@ due_earns now ws es sent =
 pub notices_earn : (ws : List (Waiting WaitingReply)) (most sockets now : ℕ) (acts : List Act) → AreNotices most sockets now acts → Earns ws ws acts
 notices_earn ws most sockets now acts notices =
     earns_if ws ws acts (λ f. pays_notices f most sockets now acts (waiting_worth f ws) notices) (λ g. pays_free (requests g) acts 0 (notices_handle_nothing g most sockets now acts notices))
+
+-- ---- acts without one that is free
+
+left_out : (k : Book) (x : Act) → IsFree k x → (m : ℕ) (xs ys : List Act) (credit : ℕ) → AllPaid k credit (xs ++ x ∷ ys) → m ≤ left_of k credit (xs ++ x ∷ ys) → AllPaid k credit (xs ++ ys) × (m ≤ left_of k credit (xs ++ ys))
+left_out k x free m [] ys credit paid left =
+    let costs = free.0 in
+    let brings = free.1 in
+    let same : credit - k.cost x + k.gain x ≡ credit = omega (arith, costs, brings) in
+    (subst (λ (n : ℕ). AllPaid k n ys) same paid.1, subst (λ (n : ℕ). m ≤ left_of k n ys) same left)
+left_out k x free m (y ∷ xs) ys credit paid left =
+    let rest = left_out k x free m xs ys (credit - k.cost y + k.gain y) paid.1 left in
+    ((paid.0, rest.0), rest.1)
+
+-- without a reading of the clock
+pub earns_unclocked : (old new : List (Waiting WaitingReply)) (shown : Option ℕ) (xs ys : List Act) → Earns old new (xs ++ At (Clocked shown) ∷ ys) → Earns old new (xs ++ ys)
+earns_unclocked old new shown xs ys earns = (
+  λ f credit enough. let paid = earns.0 f credit enough in left_out (replies f) (At (Clocked shown)) (refl, refl) (waiting_worth f new) xs ys credit paid.0 paid.1,
+  λ g credit. let paid = earns.1 g credit in left_out (requests g) (At (Clocked shown)) (refl, refl) credit xs ys credit paid.0 paid.1,
+)

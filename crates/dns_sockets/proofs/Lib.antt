@@ -1,14 +1,19 @@
 pub mod DeliveryLaws
 pub mod TraceLaws
+pub mod MomentLaws
 mod StreamTableLaws
+pub mod RotationLaws
 pub mod StoreLaws
 pub mod DueLaws
 pub mod NoticeLaws
+pub mod RequestLaws
 pub mod StreamLaws
 pub mod LedgerLaws
 pub mod DeadlineLaws
 pub mod SentLaws
 pub mod EarnsWitness
+pub mod MomentWitness
+pub mod RotationWitness
 pub mod StreamStepLaws
 pub mod ConnectionLaws
 pub mod ServedLaws

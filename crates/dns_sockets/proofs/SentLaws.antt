@@ -240,10 +240,10 @@ arrival socket peer bytes (At (Woken wake)) some = absurd (omega (arith, some))
 arrival socket peer bytes (By origin event) some = absurd (omega (arith, some))
 
 -- a request that is handled had arrived
-had_arrived : (g : ℕ → SocketAddr → List ℕ → ℕ) (before : List Act) (socket : ℕ) (rs : List RequestContent) (outcome : Option (List Delivery)) (rest : List Act) (place : ℕ) (r : RequestContent)
+pub had_arrived : (before : List Act) (socket : ℕ) (rs : List RequestContent) (outcome : Option (List Delivery)) (rest : List Act) (place : ℕ) (r : RequestContent)
     → AllPaid (requests (count socket r.peer r.bytes)) 0 (before ++ By (Socket socket) (Handled rs outcome) ∷ rest) → slice_get rs place ≡ Some r
     → Contains before (At (Received socket r.bytes r.peer))
-had_arrived g before socket rs outcome rest place r paid is =
+had_arrived before socket rs outcome rest place r paid is =
     let found = pays_for (requests (count socket r.peer r.bytes)) before (By (Socket socket) (Handled rs outcome)) rest paid (counted socket rs place r is) in
     let same = arrival socket r.peer r.bytes found.act found.holds in
     subst (λ (acts : List Act). Contains acts (At (Received socket r.bytes r.peer))) (sym found.acts_are)
@@ -277,7 +277,7 @@ module _ (socket : ℕ) (bytes : List ℕ) (peer : SocketAddr) (acts : List Act)
         acts_are = is;
         request_is = p.request_is;
         delivery_is = p.delivery_is;
-        arrived = had_arrived (count s p.request.peer p.request.bytes) before s rs (Some ds) rest p.place p.request
+        arrived = had_arrived before s rs (Some ds) rest p.place p.request
             (subst (λ (all : List Act). AllPaid (requests (count s p.request.peer p.request.bytes)) 0 all) is (all_arrived (count s p.request.peer p.request.bytes))) p.request_is;
       }))
       p.peer_is p.reply_is p.bytes_are

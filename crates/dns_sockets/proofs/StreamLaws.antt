@@ -8,26 +8,13 @@ use Rattle.dns_sockets.specs.Handler.{HandlerEvent, RequestContent, Transferred,
 use Rattle.dns_sockets.specs.Stream.{AreAnswered, AreHandled, IsHandledUnless, stream_request}
 use Rattle.dns_sockets.specs.declared.handler.Request.{Request}
 
-abbrev of_messages : SocketAddr → ℕ → List (Vec ℕ) → List RequestContent
-of_messages peer now messages = map (stream_request peer now) (map message_bytes messages)
+-- a message as a request
+abbrev pub message_request : SocketAddr → ℕ → Vec ℕ → RequestContent
+message_request peer now message = stream_request peer now (message_bytes message)
 
-messages_append : (peer : SocketAddr) (now : ℕ) (xs ys : List (Vec ℕ)) → of_messages peer now (xs ++ ys) ≡ of_messages peer now xs ++ of_messages peer now ys
-messages_append peer now xs ys = ap (map (stream_request peer now)) (map-append message_bytes xs ys) ∙ map-append (stream_request peer now) (map message_bytes xs) (map message_bytes ys)
-
--- one more message is a request
-pub stream_requests_more : (peer : SocketAddr) (now i : ℕ) (messages : List (Vec ℕ)) (default : Vec ℕ) (requests more : List Request) (r : Request) → i < length messages → more ≡ requests ++ r ∷ []
-    → request_content r ≡ stream_request peer now (message_bytes (get_or messages i default)) → map request_content requests ≡ of_messages peer now (take i messages)
-    → map request_content more ≡ of_messages peer now (take (i + 1) messages)
-stream_requests_more peer now i messages default requests more r below is one so_far =
-    ap (map request_content) is ∙ map-append request_content requests (r ∷ [])
-    ∙ (λ j. so_far j ++ one j ∷ [])
-    ∙ sym (messages_append peer now (take i messages) (get_or messages i default ∷ []))
-    ∙ ap (of_messages peer now) (sym (take_more messages i default below))
-
--- all messages are requests
-pub stream_requests_whole : (peer : SocketAddr) (now i : ℕ) (messages : List (Vec ℕ)) (requests : List Request) → length messages ≤ i → map request_content requests ≡ of_messages peer now (take i messages)
-    → map request_content requests ≡ of_messages peer now messages
-stream_requests_whole peer now i messages requests all so_far = so_far ∙ ap (of_messages peer now) (take_all i messages all)
+pub messages_are : (peer : SocketAddr) (now : ℕ) (messages : List (Vec ℕ)) → map (message_request peer now) messages ≡ map (stream_request peer now) (map message_bytes messages)
+messages_are peer now [] = refl
+messages_are peer now (m ∷ ms) = ap (λ (l : List RequestContent). message_request peer now m ∷ l) (messages_are peer now ms)
 
 -- a single request
 pub single : (requests : List Request) (default : Request) → 1 ≤ length requests → length requests < 2 → map request_content requests ≡ request_content (get_or requests 0 default) ∷ []

@@ -9,17 +9,21 @@ use Rattle.std.specs.declared.net.socket_addr.SocketAddr.{SocketAddr}
 use Rattle.dns_faults.specs.declared.delivery.Delivery.{Delivery}
 use Rattle.std.specs.Prelude.{OnOk, is_err, nat_le, Result, Ok, Err}
 use Rattle.std.specs.declared.alloc.AllocError.{AllocError}
+use Rattle.std.specs.declared.io.Error.{Error}
 use Rattle.dns_server.specs.Connection.{Stream as Waiting, behind_frame, first_message, max_input_len, max_waiting_len, next_message}
 use Rattle.dns_sockets.specs.Connections.{AreNext, Connected, Follows, IsEventAllowed, IsReadAllowed, MayHandle, Place, act_after, behind, call_after, changed, closes, closes_after, connection_of, delivered, event_after, held_bytes, read_after, reply_bytes, transferred, unless_closed, waiting_bytes, written_after}
 use Rattle.dns_sockets.specs.Handler.{HandlerEvent, RequestContent, Handled, Transferred, message_bytes}
 use Rattle.dns_sockets.specs.Output.{added}
-use Rattle.dns_sockets.specs.Stream.{held_message, held_reply, stream_request}
-use Rattle.dns_sockets.specs.StreamSteps.{AreTaken, CallsFollow, CallsLeave, IsAnswered, IsReady, KeepsBytes, KeepsReplies, Leaves, StaysUnless, answered, bytes_read, place, released}
-use Rattle.dns_sockets.specs.Trace.{Act, At, By, Connection, IsOfStream, Traces}
+use Rattle.dns_sockets.specs.Stream.{AnswersAt, held_message, held_reply, stream_request}
+use Rattle.dns_sockets.specs.StreamSteps.{AreTaken, CallsFollow, CallsLeave, IsAnswered, IsReady, KeepsBytes, KeepsReplies, Leaves, StaysUnless, answered, bytes_read, ends_if, is_end, place, released}
+use Rattle.dns_sockets.specs.Moments.{IsTimed}
+use Rattle.dns_sockets.proofs.MomentLaws.{stream_timed, timed_both, timed_none}
+use Rattle.dns_sockets.specs.Trace.{Act, At, By, Connection, Consults, IsOfStream, Leads, Traces}
 use Rattle.dns_sockets.specs.declared.stream.HeldReply.{HeldReply}
+use Rattle.dns_sockets.specs.declared.stream.Step.{Step}
 use Rattle.dns_sockets.specs.declared.stream.Stream.{Stream}
-use Rattle.dns_sockets.proofs.TraceLaws.{all_more, leads_both}
-use Rattle.dns_sockets.specs.World.{WorldEvent, IsWithin, Read, Written, moved, read_event, write_event}
+use Rattle.dns_sockets.proofs.TraceLaws.{all_as, all_more, leads_both, leads_consulted}
+use Rattle.dns_sockets.specs.World.{WorldEvent, Clocked, IsWithin, Read, Written, moved, read_event, write_event}
 use Rattle.dns_sockets.specs.declared.world.Progress.{Progress}
 use Rattle.dns_sockets.specs.declared.world.Progress.TheVariants as progresses
 
@@ -124,6 +128,11 @@ gathered_more bytes rest after message old new v taken more is first behind =
     (subst (λ (left : List ℕ). AreTaken bytes (map message_bytes old ++ message ∷ []) left) (sym behind) (taken_more bytes (map message_bytes old) rest message taken first))
 
 -- ---- calls
+
+-- where the clock fails, nothing is done
+pub failed_leaves : (result : Result Step Error) → is_err result ≡ true → (a : Connected) → CallsLeave (ends_if result) a [] a
+failed_leaves (Ok step) fails a = absurd (cc fails)
+failed_leaves (Err error) fails a = refl
 
 -- where a connection is to be closed, nothing has to happen
 pub none_leave : (fails : Bool) (old new : Connected) → fails ≡ true → CallsLeave fails old [] new
@@ -284,23 +293,50 @@ leaves_any false index a b acts leaves = leaves
 -- ---- several steps
 
 module _ {S H : Type 0} (performs : S → WorldEvent → S → Type 0) (steps : H → HandlerEvent → H → Type 0) where
+  -- a connection goes on, and may be closed then
+  abbrev pub GoesOn : Bool → ℕ → Connected → Connected → S → S → H → H → Type 0
+  GoesOn fails index a b w w1 h h1 = Traces performs steps w h w1 h1 (λ acts. AllByRecursion (IsOfStream index) acts × Leaves fails index a acts b × IsTimed acts)
+
   -- acts of a connection after others
   pub steps_then : (fails : Bool) (index : ℕ) (a b c : Connected) (w w1 w2 : S) (h h1 h2 : H)
-      → Traces performs steps w h w1 h1 (λ acts. AllByRecursion (IsOfStream index) acts × Leaves false index a acts b)
-      → Traces performs steps w1 h1 w2 h2 (λ acts. AllByRecursion (IsOfStream index) acts × Leaves fails index b acts c)
-      → Traces performs steps w h w2 h2 (λ acts. AllByRecursion (IsOfStream index) acts × Leaves fails index a acts c)
+      → GoesOn false index a b w w1 h h1
+      → GoesOn fails index b c w1 w2 h1 h2
+      → GoesOn fails index a c w w2 h h2
   steps_then fails index a b c w w1 w2 h h1 h2 first next = record {
     acts = first.acts ++ next.acts;
     leads = leads_both performs steps w w1 w2 h h1 h2 first.acts next.acts first.leads next.leads;
-    holds = (all_more (IsOfStream index) first.acts next.acts first.holds.0 next.holds.0, leaves_both fails index a b c first.acts next.acts first.holds.1 next.holds.1);
+    holds = (all_more (IsOfStream index) first.acts next.acts first.holds.0 next.holds.0, leaves_both fails index a b c first.acts next.acts first.holds.1 next.holds.1, timed_both first.acts next.acts first.holds.2 next.holds.2);
   }
 
   -- no act
-  pub steps_none : (index : ℕ) (a : Connected) (w : S) (h : H) → Traces performs steps w h w h (λ acts. AllByRecursion (IsOfStream index) acts × Leaves false index a acts a)
-  steps_none index a w h = record { acts = []; leads = (refl, refl); holds = (tt, λ accepted. refl) }
+  pub steps_none : (index : ℕ) (a : Connected) (w : S) (h : H) → GoesOn false index a a w w h h
+  steps_none index a w h = record { acts = []; leads = (refl, refl); holds = (tt, λ accepted. refl, timed_none) }
 
   -- a connection that goes on may be closed
   pub steps_any : (fails : Bool) (index : ℕ) (a b : Connected) (w w1 : S) (h h1 : H)
-      → Traces performs steps w h w1 h1 (λ acts. AllByRecursion (IsOfStream index) acts × Leaves false index a acts b)
-      → Traces performs steps w h w1 h1 (λ acts. AllByRecursion (IsOfStream index) acts × Leaves fails index a acts b)
-  steps_any fails index a b w w1 h h1 all = record { acts = all.acts; leads = all.leads; holds = (all.holds.0, leaves_any fails index a b all.acts all.holds.1) }
+      → GoesOn false index a b w w1 h h1
+      → GoesOn fails index a b w w1 h h1
+  steps_any fails index a b w w1 h h1 all = record { acts = all.acts; leads = all.leads; holds = (all.holds.0, leaves_any fails index a b all.acts all.holds.1, all.holds.2) }
+
+  -- the clock is read, and requests are answered
+  pub consulted : (fails : Bool) (index : ℕ) (a b : Connected) (peer : SocketAddr) (is_busy : Bool) (w w1 : S) (h h1 : H)
+      → Consults performs steps w h w1 h1 (λ clocks calls. (shown : Option ℕ) × ((clocks ≡ Clocked shown ∷ []) × (AnswersAt shown is_busy peer calls × CallsLeave fails a calls b)))
+      → GoesOn fails index a b w w1 h h1
+  consulted fails index a b peer is_busy w w1 h h1 happened =
+      let shown = happened.holds.0 in
+      let acts = map (By (Connection index)) happened.calls in
+      record {
+        acts = At (Clocked shown) ∷ acts;
+        leads = subst (λ (es : List WorldEvent). Leads performs steps w h (map At es ++ acts) w1 h1) happened.holds.1.0
+            (leads_consulted performs steps (Connection index) w w1 h h1 happened.events happened.calls happened.led happened.called);
+        holds = (
+          (tt, all_as performs steps (IsOfStream index) (By (Connection index)) (λ e. refl) happened.calls),
+          leaves_both fails index a a b (At (Clocked shown) ∷ []) acts (λ accepted. (tt, refl)) (calls_leaves fails index a b happened.calls happened.holds.1.1.1),
+          stream_timed index shown is_busy peer happened.calls happened.holds.1.1.0,
+        );
+      }
+
+  -- where the clock fails, it goes on no further
+  pub steps_fail : (result : Result Bool Error) → is_err result ≡ true → (index : ℕ) (a b : Connected) (w w1 : S) (h h1 : H) → GoesOn false index a b w w1 h h1 → GoesOn (is_end result) index a b w w1 h h1
+  steps_fail (Ok closes) fails index a b w w1 h h1 all = absurd (cc fails)
+  steps_fail (Err error) fails index a b w w1 h h1 all = all

@@ -43,6 +43,12 @@ module _ {S H : Type 0} (performs : S → WorldEvent → S → Type 0) (steps : 
   leads_both w w1 w2 h h1 h2 (At e ∷ acts) more first rest = (first.0, (first.1.0, leads_both first.0 w1 w2 h h1 h2 acts more first.1.1 rest))
   leads_both w w1 w2 h h1 h2 (By o e ∷ acts) more first rest = (first.0, (first.1.0, leads_both w w1 w2 first.0 h1 h2 acts more first.1.1 rest))
 
+  -- events of the world, and then calls of a handler
+  pub leads_consulted : (origin : Origin) (w w1 : S) (h h1 : H) (es : List WorldEvent) (calls : List HandlerEvent) → Led performs w es w1 → Led steps h calls h1
+      → Leads performs steps w h (map At es ++ map (By origin) calls) w1 h1
+  leads_consulted origin w w1 h h1 es calls led called =
+      leads_both w w1 w1 h h h1 (map At es) (map (By origin) calls) (leads_at w w1 h es led) (leads_by origin w1 h h1 calls called)
+
 sent_more : (socket : ℕ) (bytes : List ℕ) (peer : SocketAddr) (es : List WorldEvent) (e : WorldEvent) → AllByRecursion (IsSent socket bytes peer) es → IsSent socket bytes peer e
     → AllByRecursion (IsSent socket bytes peer) (es ++ e ∷ [])
 sent_more socket bytes peer [] e all one = (one, tt)
@@ -58,6 +64,11 @@ pub copies_more : (socket count : ℕ) (bytes : List ℕ) (peer : SocketAddr) (e
 copies_more socket count bytes peer es e copies one = (one_longer es e ∙ ap (λ (n : ℕ). n + 1) copies.0, sent_more socket bytes peer es e copies.1 one)
 
 -- ---- all acts
+
+-- all have another property
+pub all_become : {A : Type 0} (P Q : A → Type 0) → ((x : A) → P x → Q x) → (xs : List A) → AllByRecursion P xs → AllByRecursion Q xs
+all_become P Q each [] all = tt
+all_become P Q each (x ∷ xs) all = (each x all.0, all_become P Q each xs all.1)
 
 pub all_more : {A : Type 0} (P : A → Type 0) (xs ys : List A) → AllByRecursion P xs → AllByRecursion P ys → AllByRecursion P (xs ++ ys)
 all_more P [] ys first rest = rest
@@ -155,7 +166,7 @@ of_stream_is_aside index (At e ∷ acts) all = (event_is_aside index e all.0, of
     event_is_aside index (Accepted listener peer) is = absurd is
     event_is_aside index (Admitted stream admitted) is = absurd is
     event_is_aside index (Closed stream) is = absurd is
-    event_is_aside index (Clocked moment) is = absurd is
+    event_is_aside index (Clocked moment) is = tt
     event_is_aside index (Waited most) is = absurd is
     event_is_aside index (Woken wake) is = absurd is
 of_stream_is_aside index (By (Connection stream) e ∷ acts) all = (tt, of_stream_is_aside index acts all.1)

@@ -1,6 +1,7 @@
 -- What becomes of datagrams.
-use Rattle.std.specs.Prelude.{◌≡◌, ◌⊎◌, ◌-◌, nat_le, not, length, map, slice_get, ⊤, Bool, true, false, ℕ, List, [], ◌∷◌, ◌++◌, Option, Some, None}
+use Rattle.std.specs.Prelude.{◌≡◌, ◌⊎◌, ◌-◌, nat_le, not, length, map, slice_get, Bool, true, false, ℕ, List, [], ◌∷◌, ◌++◌, Option, Some, None, Result, Ok, Err}
 use Rattle.std.specs.Global.{Vec}
+use Rattle.std.specs.declared.io.Error.{Error}
 use Rattle.std.specs.declared.net.socket_addr.SocketAddr.{SocketAddr}
 use Rattle.dns_faults.specs.declared.delivery.Delivery.{Delivery}
 use Rattle.dns_sockets.specs.declared.datagrams.Datagram.{Datagram}
@@ -8,7 +9,7 @@ use Rattle.dns_sockets.specs.declared.datagrams.WaitingReply.{WaitingReply}
 use Rattle.dns_faults.specs.declared.rules.fault.Transport.TheVariants as Transport
 use Rattle.dns_sockets.specs.Handler.{HandlerEvent, RequestContent, Handled, Took}
 use Rattle.dns_sockets.specs.Notices.{is_response}
-use Rattle.dns_sockets.specs.World.{WorldEvent, AreCopies, Received, Unreceived}
+use Rattle.dns_sockets.specs.World.{WorldEvent, AreCopies, Clocked, Received, Unreceived}
 use Rattle.dns_sockets.specs.Trace.{Act, At, By, Socket}
 use Rattle.dns_sockets.specs.Stream.{later_by}
 use Rattle.dns_sockets.specs.schedule.Schedule.{ScheduleContent, scheduled}
@@ -81,25 +82,28 @@ datagram_at bytes peer now = record { bytes = bytes; peer = peer; transport = Tr
 abbrev pub content_at : ℕ → Datagram → RequestContent
 content_at now datagram = datagram_at datagram.bytes.items datagram.peer now
 
--- there is no delivery
-abbrev pub IsEmpty : Option (List Delivery) → Type 0
-IsEmpty None = ⊤
-IsEmpty (Some ds) = ds ≡ []
-
 -- datagrams that arrived together are handled
 abbrev pub are_handled : ℕ → List Datagram → Option (List Delivery) → HandlerEvent
 are_handled now gathered outcome = Handled (map (content_at now) gathered) outcome
 
--- the same, or nothing is done: for want of memory, or where there are none
+-- the same, or nothing is done for want of memory
 abbrev pub HandlesIf : ℕ → List Datagram → List HandlerEvent → Option (List Delivery) → Type 0
-HandlesIf now gathered events outcome = (events ≡ are_handled now gathered outcome ∷ []) ⊎ ((events ≡ []) × IsEmpty outcome)
+HandlesIf now gathered events outcome = (events ≡ are_handled now gathered outcome ∷ []) ⊎ ((events ≡ []) × (outcome ≡ None))
 
--- acts of a handler and then of the world: datagrams that arrived at a socket are handled, and their replies are sent
-abbrev pub Handles : ℕ → ℕ → List Datagram → ScheduleContent WaitingReply → List Act → ScheduleContent WaitingReply → Type 0
-Handles index now gathered old acts new =
+-- Acts of a handler and then of the world, once the clock shows a moment: datagrams that arrived at a socket are handled, and their replies
+-- are sent. Where the clock fails, they are lost.
+abbrev pub HandlesAt : Option ℕ → ℕ → List Datagram → ScheduleContent WaitingReply → List Act → ScheduleContent WaitingReply → Type 0
+HandlesAt None index gathered old acts new = (acts ≡ []) × (new ≡ old)
+HandlesAt (Some now) index gathered old acts new =
     (outcome : Option (List Delivery)) × (calls : List HandlerEvent) × (sent : List WorldEvent)
     × ((acts ≡ map (By (Socket index)) calls ++ map At sent) × (HandlesIf now gathered calls outcome
     × DeliversIf index now (map peer_of gathered) outcome old sent new))
+
+-- the clock is read, and then the datagrams are handled, if there are any
+abbrev pub Handles : ℕ → List Datagram → ScheduleContent WaitingReply → List Act → ScheduleContent WaitingReply → Type 0
+Handles index gathered old acts new =
+    ((acts ≡ []) × ((gathered ≡ []) × (new ≡ old)))
+    ⊎ ((shown : Option ℕ) × (rest : List Act) × ((acts ≡ At (Clocked shown) ∷ rest) × HandlesAt shown index gathered old rest new))
 
 -- what a datagram is, wherever its bytes are
 abbrev pub datagram_content : Datagram → SocketAddr × List ℕ
@@ -109,24 +113,37 @@ datagram_content datagram = (datagram.peer, datagram.bytes.items)
 abbrev pub IsAddedOrLost : SocketAddr → List ℕ → List Datagram → List Datagram → Type 0
 IsAddedOrLost peer bytes old new = (new ≡ old) ⊎ (map datagram_content new ≡ map datagram_content old ++ (peer, bytes) ∷ [])
 
--- the same unless it is taken as a response that was expected
-abbrev pub GathersIf : Bool → SocketAddr → List ℕ → List Datagram → List Datagram → Type 0
-GathersIf true peer bytes old new = new ≡ old
-GathersIf false peer bytes old new = IsAddedOrLost peer bytes old new
+-- the same unless it is taken as a response that was expected, or the clock fails
+abbrev pub GathersIf : Option Bool → SocketAddr → List ℕ → List Datagram → List Datagram → Type 0
+GathersIf None peer bytes old new = new ≡ old
+GathersIf (Some true) peer bytes old new = new ≡ old
+GathersIf (Some false) peer bytes old new = IsAddedOrLost peer bytes old new
 
--- a datagram is taken by the handler as a response that was expected, or not; one that does not begin as a response does is not
-abbrev pub TakesIf : Bool → RequestContent → List HandlerEvent → Bool → Type 0
-TakesIf true r calls is_taken = calls ≡ Took r is_taken ∷ []
-TakesIf false r calls is_taken = (calls ≡ []) × (is_taken ≡ false)
+-- whether a datagram is taken as a response that was expected, unless the clock fails
+abbrev pub taken_if : Result Bool Error → Option Bool
+taken_if (Ok is_taken) = Some is_taken
+taken_if (Err error) = None
+
+-- the clock is read, and then a datagram is taken by the handler as a response that was expected, or not
+abbrev pub Takes : List ℕ → SocketAddr → List WorldEvent → List HandlerEvent → Option Bool → Type 0
+Takes bytes peer clocks calls None = (clocks ≡ Clocked None ∷ []) × (calls ≡ [])
+Takes bytes peer clocks calls (Some is_taken) =
+    (now : ℕ) × ((clocks ≡ Clocked (Some now) ∷ []) × (calls ≡ Took (datagram_at bytes peer now) is_taken ∷ []))
+
+-- the same of one that begins as a response does; another is not taken
+abbrev pub TakesIf : Bool → List ℕ → SocketAddr → List WorldEvent → List HandlerEvent → Option Bool → Type 0
+TakesIf true bytes peer clocks calls taken = Takes bytes peer clocks calls taken
+TakesIf false bytes peer clocks calls taken = (clocks ≡ []) × ((calls ≡ []) × (taken ≡ Some false))
 
 -- what becomes of a datagram that was received
-abbrev pub Gathers : RequestContent → List Datagram → List HandlerEvent → List Datagram → Type 0
-Gathers r old calls new = (is_taken : Bool) × (TakesIf (is_response r.bytes) r calls is_taken × GathersIf is_taken r.peer r.bytes old new)
+abbrev pub Gathers : List ℕ → SocketAddr → List Datagram → List WorldEvent → List HandlerEvent → List Datagram → Type 0
+Gathers bytes peer old clocks calls new =
+    (taken : Option Bool) × (TakesIf (is_response bytes) bytes peer clocks calls taken × GathersIf taken peer bytes old new)
 
 -- what becomes of a receive: a datagram is gathered, or there is none
-abbrev pub ReceivesBy : ℕ → WorldEvent → List Datagram → List HandlerEvent → List Datagram → Type 0
-ReceivesBy now (Received index bytes peer) old calls new = Gathers (datagram_at bytes peer now) old calls new
-ReceivesBy now event old calls new = (calls ≡ []) × (new ≡ old)
+abbrev pub ReceivesBy : WorldEvent → List Datagram → List WorldEvent → List HandlerEvent → List Datagram → Type 0
+ReceivesBy (Received index bytes peer) old clocks calls new = Gathers bytes peer old clocks calls new
+ReceivesBy event old clocks calls new = (clocks ≡ []) × ((calls ≡ []) × (new ≡ old))
 
 -- a receive at a socket
 abbrev pub IsReceive : ℕ → WorldEvent → Type 0
@@ -135,10 +152,10 @@ IsReceive index (Unreceived socket) = socket ≡ index
 IsReceive index event = ⊥
 
 -- acts of the world and then of a handler: a receive at a socket, and what becomes of it
-abbrev pub Receives : ℕ → ℕ → List Datagram → List Act → List Datagram → Type 0
-Receives index now old acts new =
-    (event : WorldEvent) × (calls : List HandlerEvent)
-    × ((acts ≡ At event ∷ map (By (Socket index)) calls) × (IsReceive index event × ReceivesBy now event old calls new))
+abbrev pub Receives : ℕ → List Datagram → List Act → List Datagram → Type 0
+Receives index old acts new =
+    (event : WorldEvent) × (clocks : List WorldEvent) × (calls : List HandlerEvent)
+    × ((acts ≡ At event ∷ map At clocks ++ map (By (Socket index)) calls) × (IsReceive index event × ReceivesBy event old clocks calls new))
 
 -- ---- turns
 
@@ -148,16 +165,21 @@ pub data TurnStep : Type 0 where
   Handle : List Act → TurnStep
 
 -- Steps of a turn, one after another: each receive adds to the datagrams that are gathered, and all of these are handled together.
-abbrev pub AreSteps : ℕ → ℕ → List TurnStep → List Datagram → ScheduleContent WaitingReply → List Act → List Datagram
+abbrev pub AreSteps : ℕ → List TurnStep → List Datagram → ScheduleContent WaitingReply → List Act → List Datagram
     → ScheduleContent WaitingReply → Type 0
-AreSteps index now [] old waiting acts new left = (acts ≡ []) × ((new ≡ old) × (left ≡ waiting))
-AreSteps index now (Receive first ∷ steps) old waiting acts new left =
+AreSteps index [] old waiting acts new left = (acts ≡ []) × ((new ≡ old) × (left ≡ waiting))
+AreSteps index (Receive first ∷ steps) old waiting acts new left =
     (gathered : List Datagram) × (rest : List Act)
-    × ((acts ≡ first ++ rest) × (Receives index now old first gathered × AreSteps index now steps gathered waiting rest new left))
-AreSteps index now (Handle first ∷ steps) old waiting acts new left =
+    × ((acts ≡ first ++ rest) × (Receives index old first gathered × AreSteps index steps gathered waiting rest new left))
+AreSteps index (Handle first ∷ steps) old waiting acts new left =
     (held : ScheduleContent WaitingReply) × (rest : List Act)
-    × ((acts ≡ first ++ rest) × (Handles index now old waiting first held × AreSteps index now steps [] held rest new left))
+    × ((acts ≡ first ++ rest) × (Handles index old waiting first held × AreSteps index steps [] held rest new left))
 
 -- the same for some steps
-abbrev pub IsTurn : ℕ → ℕ → List Datagram → ScheduleContent WaitingReply → List Datagram → ScheduleContent WaitingReply → List Act → Type 0
-IsTurn index now old waiting new left acts = (steps : List TurnStep) × AreSteps index now steps old waiting acts new left
+abbrev pub IsTurn : ℕ → List Datagram → ScheduleContent WaitingReply → List Datagram → ScheduleContent WaitingReply → List Act → Type 0
+IsTurn index old waiting new left acts = (steps : List TurnStep) × AreSteps index steps old waiting acts new left
+
+-- a turn at whose beginning no datagram is gathered, and none at its end, unless it fails
+abbrev pub IsTurnUnless : Bool → ℕ → ScheduleContent WaitingReply → ScheduleContent WaitingReply → List Act → Type 0
+IsTurnUnless true index waiting left acts = (lost : List Datagram) × IsTurn index [] waiting lost left acts
+IsTurnUnless false index waiting left acts = IsTurn index [] waiting [] left acts

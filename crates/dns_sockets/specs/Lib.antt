@@ -3,6 +3,7 @@ pub mod Connections
 pub mod StreamHistory
 pub mod StreamSteps
 pub mod StreamTable
+pub mod Rotation
 pub mod Notices
 pub mod Output
 pub mod Handler
@@ -14,5 +15,6 @@ pub mod schedule
 pub mod Ledger
 pub mod Served
 pub mod Sent
+pub mod Moments
 pub mod Deadlines
 pub mod Tokens

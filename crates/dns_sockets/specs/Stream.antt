@@ -59,3 +59,8 @@ AreAnswered is_busy (request ∷ next ∷ more) calls = AreHandled (request ∷ 
 -- messages that arrived over a stream are answered, or nothing is done for want of memory
 abbrev pub Answers : Bool → SocketAddr → ℕ → List HandlerEvent → Type 0
 Answers is_busy peer now calls = (calls ≡ []) ⊎ ((messages : List (List ℕ)) × AreAnswered is_busy (map (stream_request peer now) messages) calls)
+
+-- the same at the moment that a clock shows, or nothing where it fails
+abbrev pub AnswersAt : Option ℕ → Bool → SocketAddr → List HandlerEvent → Type 0
+AnswersAt None is_busy peer calls = calls ≡ []
+AnswersAt (Some now) is_busy peer calls = Answers is_busy peer now calls

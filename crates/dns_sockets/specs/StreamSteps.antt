@@ -1,5 +1,6 @@
 -- What a step of a connection does to it.
-use Rattle.std.specs.Prelude.{◌≡◌, ◌≤◌, Bool, true, false, ℕ, List, [], ◌∷◌, ◌++◌, length, take, Option, Some, None}
+use Rattle.std.specs.Prelude.{◌≡◌, ◌≤◌, Bool, true, false, ℕ, List, [], ◌∷◌, ◌++◌, length, take, Option, Some, None, Result, Ok, Err}
+use Rattle.std.specs.declared.io.Error.{Error}
 use Rattle.std.specs.declared.net.socket_addr.SocketAddr.{SocketAddr}
 use Rattle.dns_server.specs.Connection.{behind_frame, first_message, max_waiting_len}
 use Rattle.dns_sockets.specs.Connections.{Connected, Follows, IsCallAllowed, MayHandle, Place, behind, call_after, closes_after, connection_of, held_bytes}
@@ -62,6 +63,16 @@ abbrev pub ends : Step → Bool
 ends steps.Moved = false
 ends steps.Waits = false
 ends steps.Closes = true
+
+-- the same, unless it fails: then nothing was done
+abbrev pub ends_if : Result Step Error → Bool
+ends_if (Ok step) = ends step
+ends_if (Err error) = false
+
+-- whether a connection is to be closed, unless it fails
+abbrev pub is_end : Result Bool Error → Bool
+is_end (Ok closes) = closes
+is_end (Err error) = false
 
 -- a place with this connection
 abbrev pub place : Option SocketAddr → Connected → Place

@@ -1,5 +1,6 @@
 -- What a service does: what happens between it and the world, and what its handler does, in order.
 use Rattle.std.specs.Prelude.{◌≡◌, ◌⊎◌, ℕ, List, [], ◌∷◌, ⊤, Option}
+use Rattle.dns_sockets.specs.Events.{Led}
 use Rattle.dns_sockets.specs.Handler.{HandlerEvent}
 use Rattle.dns_sockets.specs.World.{WorldEvent, Clocked, Read, Received, Sent, Unreceived, Waited, Woken, Written}
 
@@ -29,6 +30,15 @@ pub record Traces {S H : Type 0} (performs : S → WorldEvent → S → Type 0) 
   pub leads : Leads performs steps world handler acts new after
   pub holds : P acts
 
+-- events of the world, and then calls of a handler, that lead both from a state to another, have P
+pub record Consults {S H : Type 0} (performs : S → WorldEvent → S → Type 0) (steps : H → HandlerEvent → H
+    → Type 0) (world : S) (handler : H) (new : S) (after : H) (P : List WorldEvent → List HandlerEvent → Type 0) : Type 0 where
+  pub events : List WorldEvent
+  pub calls : List HandlerEvent
+  pub led : Led performs world events new
+  pub called : Led steps handler calls after
+  pub holds : P events calls
+
 -- ---- what is no datagram
 
 -- an event at no datagram socket
@@ -55,10 +65,11 @@ abbrev pub IsAside : Act → Type 0
 IsAside (At event) = IsAsideEvent event
 IsAside (By origin event) = IsForStream origin
 
--- an event of the connection of an index
+-- an event of the connection of an index, or a reading of the clock
 abbrev pub IsEventOf : ℕ → WorldEvent → Type 0
 IsEventOf index (Read stream bytes) = stream ≡ index
 IsEventOf index (Written stream bytes) = stream ≡ index
+IsEventOf index (Clocked moment) = ⊤
 IsEventOf index event = ⊥
 
 -- what arrived on the connection of an index
@@ -66,7 +77,7 @@ abbrev pub IsFor : ℕ → Origin → Type 0
 IsFor index (Connection stream) = stream ≡ index
 IsFor index origin = ⊥
 
--- an act that is about the connection of an index
+-- an act that is about the connection of an index, or a reading of the clock
 abbrev pub IsOfStream : ℕ → Act → Type 0
 IsOfStream index (At event) = IsEventOf index event
 IsOfStream index (By origin event) = IsFor index origin

@@ -1,12 +1,12 @@
 //! Datagram sockets.
 
-ghost use Rattle.std.specs.Prelude.{◌≡◌, [], map, List};
-ghost use Rattle.dns_sockets.specs.Datagrams.{AreSent, Delivers, DeliversAll, Gathers, Handles, HandlesIf, IsAddedOrLost, IsTurn, Receives, TakesIf, datagram_at, is_complete, peer_of};
+ghost use Rattle.std.specs.Prelude.{◌≡◌, IfOk, List, Some, is_err, map};
+ghost use Rattle.dns_sockets.specs.Datagrams.{AreSent, Delivers, DeliversAll, Gathers, Handles, HandlesAt, HandlesIf, IsAddedOrLost, IsTurn, IsTurnUnless, Receives, TakesIf, content_at, is_complete, peer_of, taken_if};
 ghost use Rattle.dns_sockets.specs.Deadlines.{earliest, socket_deadline};
 ghost use Rattle.dns_sockets.specs.Events.{Performs};
 ghost use Rattle.dns_sockets.specs.Handler.{deliveries_if, request_content};
 ghost use Rattle.dns_sockets.specs.Notices.{is_response};
-ghost use Rattle.dns_sockets.specs.Trace.{Traces};
+ghost use Rattle.dns_sockets.specs.Trace.{Consults, Traces};
 ghost use Rattle.dns_sockets.specs.schedule.Schedule.{all_due, all_left};
 ghost use Rattle.dns_sockets.specs.World.{AreCopies};
 
@@ -17,6 +17,7 @@ use crate::schedule::Schedule;
 use crate::world::{Receipt, World};
 use dns_faults::Delivery;
 use std::alloc::{AllocError, Global};
+use std::io;
 use std::net::SocketAddr;
 
 /// How many datagrams of a socket are handled before others have their turn.
@@ -93,7 +94,11 @@ impl DatagramSocket {
         self.ready_at
     }
 
-    /// Handles datagrams that wait, at most 64 of them.
+    /// Handles datagrams that wait, at most 64 of them. `now` is a moment before they are received.
+    ///
+    /// # Errors
+    ///
+    /// The clock fails.
     pub(crate) fn serve<W: World, H: Handler>(
         &mut self,
         world: &mut W,
@@ -103,12 +108,12 @@ impl DatagramSocket {
         waiting: &mut Schedule<WaitingReply>,
         buffer: &mut [u8],
         now: Milliseconds,
-    )
+    ) -> io::Result<()>
         ensures { Traces W.performs H.steps world.old handler.old world.new handler.new
-            (IsTurn index now [] waiting.old [] waiting.new) }
+            (IsTurnUnless (is_err result) index waiting.old waiting.new) }
     {
         if now < self.ready_at {
-            return;
+            return Ok(());
         }
         let mut gathered = Vec::new(alloc);
         self.receive_all(
@@ -120,16 +125,8 @@ impl DatagramSocket {
             waiting,
             buffer,
             now,
-        );
-        handle_all(
-            world,
-            alloc,
-            index,
-            handler,
-            waiting,
-            gathered.as_slice(),
-            now,
-        );
+        )?;
+        handle_all(world, alloc, index, handler, waiting, gathered.as_slice())
     }
 
     /// Receives datagrams that wait, at most 64 of them, and handles those that need not wait for others.
@@ -143,15 +140,16 @@ impl DatagramSocket {
         waiting: &mut Schedule<WaitingReply>,
         buffer: &mut [u8],
         now: Milliseconds,
-    )
+    ) -> io::Result<()>
         ensures { Traces W.performs H.steps world.old handler.old world.new handler.new
-            (IsTurn index now gathered.old.items waiting.old gathered.new.items waiting.new) }
+            (IsTurn index gathered.old.items waiting.old gathered.new.items waiting.new) }
     {
         for _datagram in 0..MAX_BATCH {
-            if !self.step(world, gathered, alloc, index, handler, waiting, buffer, now) {
-                return;
+            if !self.step(world, gathered, alloc, index, handler, waiting, buffer, now)? {
+                return Ok(());
             }
         }
+        Ok(())
     }
 
     /// Adds the next datagram to those that are handled together, and handles these unless others may follow. Returns `false` if none
@@ -166,24 +164,17 @@ impl DatagramSocket {
         waiting: &mut Schedule<WaitingReply>,
         buffer: &mut [u8],
         now: Milliseconds,
-    ) -> bool
+    ) -> io::Result<bool>
         ensures { Traces W.performs H.steps world.old handler.old world.new handler.new
-            (IsTurn index now gathered.old.items waiting.old gathered.new.items waiting.new) }
+            (IsTurn index gathered.old.items waiting.old gathered.new.items waiting.new) }
     {
-        let is_received = self.receive(world, gathered, alloc, index, handler, buffer, now);
+        let is_received = self.receive(world, gathered, alloc, index, handler, buffer, now)?;
         if is_received && is_complete(handler, gathered.as_slice()) {
-            handle_all(
-                world,
-                alloc,
-                index,
-                handler,
-                waiting,
-                gathered.as_slice(),
-                now,
-            );
+            let handled = handle_all(world, alloc, index, handler, waiting, gathered.as_slice());
             gathered.clear();
+            handled?;
         }
-        is_received
+        Ok(is_received)
     }
 
     /// Adds the next datagram to those that are handled together, unless it is a response that is expected. Returns `false` if none
@@ -197,27 +188,47 @@ impl DatagramSocket {
         handler: &mut H,
         buffer: &mut [u8],
         now: Milliseconds,
-    ) -> bool
+    ) -> io::Result<bool>
         ensures { Traces W.performs H.steps world.old handler.old world.new handler.new
-            (λ acts. Receives index now gathered.old.items acts gathered.new.items) }
+            (λ acts. Receives index gathered.old.items acts gathered.new.items) }
     {
         match world.receive(index, buffer) {
             Receipt::Datagram(len, peer) => {
-                gather(gathered, alloc, handler, &buffer[..len], peer, now);
+                gather(world, gathered, alloc, handler, &buffer[..len], peer)?;
             }
             Receipt::Interrupted => {}
             Receipt::Nothing => {
                 self.ready_at = Milliseconds::MAX;
-                return false;
+                return Ok(false);
             }
             Receipt::Failed => self.ready_at = now.saturating_add(RETRY_INTERVAL),
         }
-        true
+        Ok(true)
     }
 }
 
-/// Handles datagrams that arrived together, if there are any.
+/// Handles datagrams that arrived together, if there are any, at the moment that the clock shows now.
 fn handle_all<W: World, H: Handler>(
+    world: &mut W,
+    alloc: Global,
+    index: usize,
+    handler: &mut H,
+    waiting: &mut Schedule<WaitingReply>,
+    gathered: &[Datagram],
+) -> io::Result<()>
+    ensures { Traces W.performs H.steps world.old handler.old world.new handler.new
+        (λ acts. Handles index gathered.now waiting.old acts waiting.new) }
+{
+    if gathered.is_empty() {
+        return Ok(());
+    }
+    let now = world.now()?;
+    handle_at(world, alloc, index, handler, waiting, gathered, now);
+    Ok(())
+}
+
+/// Handles datagrams that arrived together at a moment.
+fn handle_at<W: World, H: Handler>(
     world: &mut W,
     alloc: Global,
     index: usize,
@@ -227,7 +238,7 @@ fn handle_all<W: World, H: Handler>(
     now: Milliseconds,
 )
     ensures { Traces W.performs H.steps world.old handler.old world.new handler.new
-        (λ acts. Handles index now gathered.now waiting.old acts waiting.new) }
+        (λ acts. HandlesAt (Some now) index gathered.now waiting.old acts waiting.new) }
 {
     // Without memory there is no reply, as if the datagrams had been lost.
     let Ok(deliveries) = deliveries_of(alloc, handler, gathered, now) else {
@@ -314,37 +325,46 @@ fn is_complete<H: Handler>(handler: &H, gathered: &[Datagram]) -> bool
 }
 
 /// Adds a datagram to those that are handled together, unless it is a response that is expected.
-fn gather<H: Handler>(
+fn gather<W: World, H: Handler>(
+    world: &mut W,
     gathered: &mut Vec<Datagram>,
     alloc: Global,
     handler: &mut H,
     bytes: &[u8],
     peer: SocketAddr,
-    now: Milliseconds,
-)
-    ensures { Performs H.steps handler.old handler.new (λ calls.
-        Gathers (datagram_at bytes.now peer now) gathered.old.items calls gathered.new.items) }
+) -> io::Result<()>
+    ensures { Consults W.performs H.steps world.old handler.old world.new handler.new
+        (λ clocks calls. Gathers bytes.now peer gathered.old.items clocks calls
+        gathered.new.items) }
 {
-    let request = Request {
+    if !is_expected(world, handler, bytes, peer)? {
+        add(gathered, alloc, bytes, peer);
+    }
+    Ok(())
+}
+
+/// Returns `true` for a response that is expected, at the moment that the clock shows now.
+fn is_expected<W: World, H: Handler>(
+    world: &mut W,
+    handler: &mut H,
+    bytes: &[u8],
+    peer: SocketAddr,
+) -> io::Result<bool>
+    ensures { Consults W.performs H.steps world.old handler.old world.new handler.new
+        (λ clocks calls. TakesIf (is_response bytes.now) bytes.now peer clocks calls
+        (taken_if result)) }
+{
+    if !is_response(bytes) {
+        return Ok(false);
+    }
+    let moment = world.now()?;
+    let response = Request {
         bytes,
         peer,
         transport: Transport::Datagram,
-        moment: now,
+        moment,
     };
-    if !is_expected(handler, &request) {
-        add(gathered, alloc, bytes, peer);
-    }
-}
-
-/// Returns `true` for a response that is expected.
-fn is_expected<H: Handler>(handler: &mut H, request: &Request<'_>) -> bool
-    ensures { Performs H.steps handler.old handler.new (λ calls.
-        TakesIf (is_response request.now.bytes.now) (request_content request.now) calls result) }
-{
-    if !is_response(request.bytes) {
-        return false;
-    }
-    handler.take_response(request)
+    Ok(handler.take_response(&response))
 }
 
 /// Adds a datagram to those that are handled together. Without memory there is no reply, as if the datagram had been lost.
@@ -366,6 +386,19 @@ fn deliveries_of<H: Handler>(
     ensures { Performs H.steps handler.old handler.new (λ calls.
         HandlesIf now gathered.now calls (deliveries_if result)) }
 {
+    let requests = requests_of(alloc, gathered, now)?;
+    handler.handle(requests.as_slice())
+}
+
+/// Returns datagrams that arrived together as requests.
+fn requests_of<'g>(
+    alloc: Global,
+    gathered: &'g [Datagram],
+    now: Milliseconds,
+) -> Result<Vec<Request<'g>>, AllocError>
+    ensures { IfOk result (λ requests. map request_content requests.items
+        ≡ map (content_at now) gathered.now) }
+{
     let mut requests = Vec::new(alloc);
     for datagram in gathered {
         requests.push(Request {
@@ -375,10 +408,7 @@ fn deliveries_of<H: Handler>(
             moment: now,
         })?;
     }
-    if requests.is_empty() {
-        return Ok(Vec::new(alloc));
-    }
-    handler.handle(requests.as_slice())
+    Ok(requests)
 }
 
 /// Sends the replies whose moment has come.

@@ -15,7 +15,7 @@ pub struct Request<'a> {
     pub peer: SocketAddr,
     /// How it arrived.
     pub transport: Transport,
-    /// When it arrived, since the service began.
+    /// When it had arrived, since the service began: what the clock shows once it has, and those that are handled together with it.
     pub moment: Milliseconds,
 }
 

@@ -1,12 +1,18 @@
 //! Theorems about the definitions of this crate, as functions with empty bodies.
 
-ghost use Rattle.std.specs.Prelude.{[], ◌∷◌, ◌++◌, true, ℕ, List, Option};
+ghost use Rattle.std.specs.List.{AllByRecursion, Contains};
+ghost use Rattle.std.specs.Prelude.{◌≡◌, ◌<◌, ◌≤◌, length, [], ◌∷◌, ◌++◌, slice_get, true, ℕ, List, Option, Some};
 ghost use Rattle.std.specs.declared.net.socket_addr.SocketAddr.{SocketAddr};
+ghost use Rattle.dns_faults.specs.declared.delivery.Delivery.{Delivery};
 ghost use Rattle.dns_sockets.specs.Connections.{AreFollowed};
+ghost use Rattle.dns_sockets.specs.Handler.{Handled, HandlerEvent, RequestContent};
 ghost use Rattle.dns_sockets.specs.Ledger.{AllPaid, Earns, Weight, replies, requests};
+ghost use Rattle.dns_sockets.specs.Moments.{HasArrived, IsDated, requests_in};
+ghost use Rattle.dns_sockets.specs.Rotation.{IsPlaceOf, places_of};
+ghost use Rattle.dns_sockets.specs.Served.{IsServed};
 ghost use Rattle.dns_sockets.specs.StreamHistory.{HaveArrived, IsFront, handled_on, read_on, replied_on, written_on};
 ghost use Rattle.dns_sockets.specs.Sent.{IsGiven};
-ghost use Rattle.dns_sockets.specs.Trace.{Act, At};
+ghost use Rattle.dns_sockets.specs.Trace.{Act, At, By, Origin, Socket};
 ghost use Rattle.dns_sockets.specs.World.{Sent};
 ghost use Rattle.dns_sockets.specs.declared.datagrams.WaitingReply.{WaitingReply};
 ghost use Rattle.dns_sockets.specs.declared.stream.Stream.{Stream};
@@ -39,4 +45,29 @@ pub fn every_datagram_is_given()
         (socket : ℕ) (bytes : List ℕ) (peer : SocketAddr)
         → Earns [] new (before ++ At (Sent socket bytes peer true) ∷ rest)
         → IsGiven socket bytes peer before }
+{}
+
+/// The moment of each request that is handled is what the clock showed last, and the clock was read after everything that had arrived by
+/// then: so a reply that is to wait waits from when its request had arrived on.
+pub fn moments_follow_arrivals()
+    ensures requests { (waiting left : List (Waiting WaitingReply))
+        (streams open_after : List (Option Stream)) (before rest : List Act) (origin : Origin)
+        (call : HandlerEvent) (place : ℕ) (request : RequestContent)
+        → IsServed waiting streams left open_after (before ++ By origin call ∷ rest)
+        → slice_get (requests_in call) place ≡ Some request → IsDated request.moment before }
+    ensures datagrams { (left : List (Waiting WaitingReply))
+        (streams open_after : List (Option Stream)) (before rest : List Act) (socket : ℕ)
+        (requests : List RequestContent) (outcome : Option (List Delivery)) (place : ℕ)
+        (request : RequestContent) → IsServed [] streams left open_after
+        (before ++ By (Socket socket) (Handled requests outcome) ∷ rest)
+        → slice_get requests place ≡ Some request
+        → HasArrived socket request before }
+{}
+
+/// However the number of places of a table of connections changes, each place has its turn within as many turns as there are places at
+/// most. (What a connection does at its turn, this law does not say.)
+pub fn each_place_has_its_turn()
+    ensures { (first place most : ℕ) (counts : List ℕ) → place < most
+        → AllByRecursion (IsPlaceOf place most) counts → most ≤ length counts
+        → Contains (places_of first counts) place }
 {}

@@ -181,7 +181,7 @@ impl Service {
             self.new.waiting.items self.new.streams.slots.items) }
     {
         let now = world.now()?;
-        self.serve_datagrams(world, handler, now);
+        self.serve_datagrams(world, handler, now)?;
         self.accept(world, now);
         self.streams
             .go_on(world, handler, self.buffer.as_mut_slice())?;
@@ -196,14 +196,15 @@ impl Service {
         world: &mut W,
         handler: &mut H,
         now: Milliseconds,
-    )
+    ) -> io::Result<()>
         ensures { Traces W.performs H.steps world.old handler.old world.new handler.new
             (IsServed self.old.waiting.items self.old.streams.slots.items
             self.new.waiting.items self.new.streams.slots.items) }
     {
         for index in 0..self.datagrams.len() {
-            self.serve_socket(world, handler, index, now);
+            self.serve_socket(world, handler, index, now)?;
         }
+        Ok(())
     }
 
     /// Handles the datagrams that wait at the socket of an index.
@@ -213,22 +214,23 @@ impl Service {
         handler: &mut H,
         index: usize,
         now: Milliseconds,
-    )
+    ) -> io::Result<()>
         ensures { Traces W.performs H.steps world.old handler.old world.new handler.new
             (IsServed self.old.waiting.items self.old.streams.slots.items
             self.new.waiting.items self.new.streams.slots.items) }
     {
-        if let Some(socket) = self.datagrams.as_mut_slice().get_mut(index) {
-            socket.serve(
-                world,
-                self.alloc,
-                index,
-                handler,
-                &mut self.waiting,
-                self.buffer.as_mut_slice(),
-                now,
-            );
-        }
+        let Some(socket) = self.datagrams.as_mut_slice().get_mut(index) else {
+            return Ok(());
+        };
+        socket.serve(
+            world,
+            self.alloc,
+            index,
+            handler,
+            &mut self.waiting,
+            self.buffer.as_mut_slice(),
+            now,
+        )
     }
 
     /// Accepts the connections that wait.

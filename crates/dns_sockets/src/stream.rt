@@ -1,16 +1,17 @@
 //! A connection of a listener.
 
 ghost use Rattle.std.specs.List.{AllByRecursion};
-ghost use Rattle.std.specs.Prelude.{◌≡◌, ◌+◌, ◌<◌, ◌≤◌, ◌⊎◌, ◌++◌, [], ◌∷◌, true, false, IfOk, IfSome, OnOk, drop, is_err, length, map, option_to_list, Some};
+ghost use Rattle.std.specs.Prelude.{◌≡◌, ◌+◌, ◌<◌, ◌≤◌, ◌⊎◌, ◌++◌, [], ◌∷◌, true, false, IfOk, IfSome, Ok, OnOk, Option, drop, is_err, length, map, option_to_list, Some, ℕ};
 ghost use Rattle.dns_server.specs.Connection.{max_input_len};
 ghost use Rattle.dns_sockets.specs.Events.{Performs};
 ghost use Rattle.dns_sockets.specs.Connections.{connected, connection_of, read_after};
-ghost use Rattle.dns_sockets.specs.StreamSteps.{AreTaken, CallsLeave, IsAnswered, IsReady, KeepsBytes, KeepsReplies, Leaves, StaysUnless, bytes_read, ends, released};
-ghost use Rattle.dns_sockets.specs.Trace.{At, IsOfStream, MayRead, Traces};
-ghost use Rattle.dns_sockets.specs.World.{IsWithin, moved, write_event};
+ghost use Rattle.dns_sockets.specs.StreamSteps.{AreTaken, CallsLeave, IsAnswered, IsReady, KeepsBytes, KeepsReplies, Leaves, StaysUnless, bytes_read, ends, ends_if, is_end, released};
+ghost use Rattle.dns_sockets.specs.Moments.{IsTimed};
+ghost use Rattle.dns_sockets.specs.Trace.{At, Consults, IsOfStream, MayRead, Traces};
+ghost use Rattle.dns_sockets.specs.World.{Clocked, IsWithin, moved, write_event};
 ghost use Rattle.dns_sockets.specs.declared.world.Progress.{Progress};
 ghost use Rattle.dns_sockets.specs.Handler.{message_bytes, request_content};
-ghost use Rattle.dns_sockets.specs.Stream.{Answers, AreAnswered, AreHandled, deadline, held_message, held_reply, stream_request};
+ghost use Rattle.dns_sockets.specs.Stream.{Answers, AnswersAt, AreAnswered, AreHandled, deadline, held_message, held_reply, stream_request};
 ghost use Rattle.dns_sockets.specs.StreamTable.{is_transferring};
 
 use crate::clock::Milliseconds;
@@ -21,6 +22,7 @@ use dns_faults::Delivery;
 use dns_server::Connection;
 use std::alloc::{AllocError, Global};
 use std::collections::VecDeque;
+use std::io;
 use std::net::SocketAddr;
 
 /// How many steps a connection makes before others have their turn.
@@ -183,34 +185,40 @@ impl Stream {
         self.is_transferring && !self.held.is_empty()
     }
 
-    /// Goes on as far as the peer allows, but for at most 8 steps. Returns `true` if the connection is to be closed.
+    /// Goes on as far as the peer allows, but for at most 8 steps. Returns `true` if the connection is to be closed. `now` is what the
+    /// clock showed last.
+    ///
+    /// # Errors
+    ///
+    /// The clock fails.
     pub(crate) fn go_on<W: World, H: Handler>(
         &mut self,
         world: &mut W,
         index: usize,
         handler: &mut H,
         buffer: &mut [u8],
-        now: Milliseconds,
+        now: &mut Milliseconds,
         is_busy: bool,
-    ) -> bool
+    ) -> io::Result<bool>
         ensures acts { Traces W.performs H.steps world.old handler.old world.new handler.new
             (λ acts. AllByRecursion (IsOfStream index) acts
-            × Leaves result index (connection_of self.old) acts (connection_of self.new)) }
-        ensures in_time { result ≡ false
-            → (self.new.wants_turn ≡ true) ⊎ (now < deadline self.new) }
+            × Leaves (is_end result) index (connection_of self.old) acts (connection_of self.new)
+            × IsTimed acts) }
+        ensures in_time { result ≡ Ok false
+            → (self.new.wants_turn ≡ true) ⊎ (now.new < deadline self.new) }
     {
         for _step in 0..MAX_STEPS {
-            match self.step(world, index, handler, buffer, now, is_busy) {
+            match self.step(world, index, handler, buffer, now, is_busy)? {
                 Step::Moved => {}
                 Step::Waits => {
                     self.wants_turn = false;
-                    return self.deadline() <= now;
+                    return Ok(self.deadline() <= *now);
                 }
-                Step::Closes => return true,
+                Step::Closes => return Ok(true),
             }
         }
         self.wants_turn = true;
-        false
+        Ok(false)
     }
 
     /// Makes one step: writes what waits, releases held replies, handles requests, or reads.
@@ -220,34 +228,35 @@ impl Stream {
         index: usize,
         handler: &mut H,
         buffer: &mut [u8],
-        now: Milliseconds,
+        now: &mut Milliseconds,
         is_busy: bool,
-    ) -> Step
+    ) -> io::Result<Step>
         ensures { Traces W.performs H.steps world.old handler.old world.new handler.new
             (λ acts. AllByRecursion (IsOfStream index) acts
-            × Leaves (ends result) index (connection_of self.old) acts (connection_of self.new)) }
+            × Leaves (ends_if result) index (connection_of self.old) acts (connection_of self.new)
+            × IsTimed acts) }
     {
         let has_output = !self.output.rest().is_empty();
         if has_output && self.readiness.write {
-            return self.write(world, index, now);
+            return Ok(self.write(world, index, *now));
         }
         if self.is_closing {
-            return if has_output {
+            return Ok(if has_output {
                 Step::Waits
             } else {
                 Step::Closes
-            };
+            });
         }
         if self.output.is_full() {
-            return Step::Waits;
+            return Ok(Step::Waits);
         }
         if !self.held.is_empty() {
-            return self.release(now);
+            return Ok(self.release(*now));
         }
         if self.connection.next_message().is_some() {
-            return self.handle(handler, now, is_busy);
+            return self.handle(world, handler, now, is_busy);
         }
-        self.receive(world, index, buffer, now)
+        Ok(self.receive(world, index, buffer, *now))
     }
 
     /// Writes bytes that wait.
@@ -281,17 +290,27 @@ impl Stream {
         }
     }
 
-    /// Handles the requests that have arrived, and holds their replies.
-    fn handle<H: Handler>(&mut self, handler: &mut H, now: Milliseconds, is_busy: bool) -> Step
+    /// Handles the requests that have arrived, at the moment that the clock shows now, and holds their replies.
+    fn handle<W: World, H: Handler>(
+        &mut self,
+        world: &mut W,
+        handler: &mut H,
+        now: &mut Milliseconds,
+        is_busy: bool,
+    ) -> io::Result<Step>
         requires { IsReady self.old }
-        ensures { Performs H.steps handler.old handler.new (λ calls.
-            Answers is_busy self.old.peer now calls
-            × CallsLeave (ends result) (connection_of self.old) calls (connection_of self.new)) }
+        ensures { Consults W.performs H.steps world.old handler.old world.new handler.new
+            (λ clocks calls. (shown : Option ℕ) × ((clocks ≡ Clocked shown ∷ [])
+            × (AnswersAt shown is_busy self.old.peer calls × CallsLeave (ends_if result)
+            (connection_of self.old) calls (connection_of self.new)))) }
     {
-        match self.answer(handler, now, is_busy) {
-            Ok(()) => Step::Moved,
+        let moment = world.now()?;
+        let answered = self.answer(handler, moment, is_busy);
+        *now = moment;
+        match answered {
+            Ok(()) => Ok(Step::Moved),
             // There was no memory for the replies, so that no later ones may take their place.
-            Err(AllocError) => Step::Closes,
+            Err(AllocError) => Ok(Step::Closes),
         }
     }
 

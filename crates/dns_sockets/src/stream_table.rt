@@ -1,12 +1,14 @@
 //! The connections of a service.
 
-ghost use Rattle.std.specs.Prelude.{◌≡◌, ◌++◌, [], ◌∷◌, true, false, IfSome, None, Some, map, slice_get, slice_set};
+ghost use Rattle.std.specs.Prelude.{◌≡◌, ◌<◌, ◌+◌, ◌++◌, [], ◌∷◌, true, false, IfSome, None, Ok, OnOk, Some, length, map, slice_get, slice_set, ℕ};
 ghost use Rattle.std.specs.List.{AllByRecursion};
 ghost use Rattle.dns_sockets.specs.Events.{Performs};
 ghost use Rattle.dns_sockets.specs.Deadlines.{earliest, slot_deadline};
 ghost use Rattle.dns_sockets.specs.Connections.{AreFollowed, AreFollowedAside, AreKept};
+ghost use Rattle.dns_sockets.specs.Moments.{IsTimed};
 ghost use Rattle.dns_sockets.specs.Trace.{At, IsAside, IsAsideEvent, Traces};
 ghost use Rattle.dns_sockets.specs.World as events;
+ghost use Rattle.dns_sockets.specs.Rotation.{HasGoneOn, IsIdleAt, first_after, next_place};
 ghost use Rattle.dns_sockets.specs.StreamTable.{IsLeastActive, closed_at, has_transfer, is_less_active, transfers};
 
 use crate::clock::Milliseconds;
@@ -116,6 +118,7 @@ impl StreamTable {
     fn close<W: World>(&mut self, world: &mut W, index: usize)
         ensures world { W.performs world.old (events.Closed index) world.new }
         ensures closed { self.new.slots.items ≡ closed_at self.old.slots.items index }
+        ensures first { self.new.first ≡ self.old.first }
     {
         world.close(index);
         if index < self.slots.len() {
@@ -142,19 +145,23 @@ impl StreamTable {
         handler: &mut H,
         buffer: &mut [u8],
     ) -> io::Result<()>
-        ensures { Traces W.performs H.steps world.old handler.old world.new handler.new
+        ensures acts { Traces W.performs H.steps world.old handler.old world.new handler.new
             (λ acts. AllByRecursion IsAside acts
-            × AreFollowed self.old.slots.items self.new.slots.items acts) }
+            × AreFollowed self.old.slots.items self.new.slots.items acts × IsTimed acts) }
+        ensures rotates { OnOk result ((turns : ℕ)
+            × ((0 < length self.old.slots.items → 0 < turns)
+            × (self.new.first ≡ first_after turns (length self.old.slots.items)
+            self.old.first))) }
     {
-        let now = world.now()?;
+        let mut now = world.now()?;
         let end = now.saturating_add(MAX_TURN);
         let mut transfers = self.transfers();
         for _slot in 0..self.slots.len() {
-            if self.go_on_until(world, handler, buffer, now, end, &mut transfers)? {
+            if self.go_on_until(world, handler, buffer, &mut now, end, &mut transfers)? {
                 return Ok(());
             }
         }
-        self.trim();
+        trim(&mut self.slots);
         Ok(())
     }
 
@@ -165,20 +172,24 @@ impl StreamTable {
         world: &mut W,
         handler: &mut H,
         buffer: &mut [u8],
-        now: Milliseconds,
+        now: &mut Milliseconds,
         end: Milliseconds,
         transfers: &mut usize,
     ) -> io::Result<bool>
-        ensures { Traces W.performs H.steps world.old handler.old world.new handler.new
+        ensures acts { Traces W.performs H.steps world.old handler.old world.new handler.new
             (λ acts. AllByRecursion IsAside acts
-            × AreFollowed self.old.slots.items self.new.slots.items acts) }
+            × AreFollowed self.old.slots.items self.new.slots.items acts × IsTimed acts) }
+        ensures first { self.new.first
+            ≡ next_place (length self.old.slots.items) self.old.first + 1 }
+        ensures count { length self.new.slots.items ≡ length self.old.slots.items }
     {
         let is_busy = *transfers >= MAX_TRANSFERS;
-        if !self.go_on_next(world, handler, buffer, now, is_busy) {
+        if !self.go_on_next(world, handler, buffer, now, is_busy)? {
             return Ok(false);
         }
         *transfers = self.transfers();
-        Ok(world.now()? >= end)
+        *now = world.now()?;
+        Ok(*now >= end)
     }
 
     /// Lets the connection go on whose turn comes next, if it has something to do, and returns `true` if it had.
@@ -187,12 +198,19 @@ impl StreamTable {
         world: &mut W,
         handler: &mut H,
         buffer: &mut [u8],
-        now: Milliseconds,
+        now: &mut Milliseconds,
         is_busy: bool,
-    ) -> bool
-        ensures { Traces W.performs H.steps world.old handler.old world.new handler.new
+    ) -> io::Result<bool>
+        ensures acts { Traces W.performs H.steps world.old handler.old world.new handler.new
             (λ acts. AllByRecursion IsAside acts
-            × AreFollowed self.old.slots.items self.new.slots.items acts) }
+            × AreFollowed self.old.slots.items self.new.slots.items acts × IsTimed acts) }
+        ensures first { self.new.first
+            ≡ next_place (length self.old.slots.items) self.old.first + 1 }
+        ensures count { length self.new.slots.items ≡ length self.old.slots.items }
+        ensures idle { result ≡ Ok false → IsIdleAt now.old (slice_get self.old.slots.items
+            (next_place (length self.old.slots.items) self.old.first)) }
+        ensures gone_on { result ≡ Ok true → HasGoneOn now.new (slice_get self.new.slots.items
+            (next_place (length self.old.slots.items) self.old.first)) }
     {
         if self.first >= self.slots.len() {
             self.first = 0;
@@ -209,26 +227,33 @@ impl StreamTable {
         index: usize,
         handler: &mut H,
         buffer: &mut [u8],
-        now: Milliseconds,
+        now: &mut Milliseconds,
         is_busy: bool,
-    ) -> bool
-        ensures { Traces W.performs H.steps world.old handler.old world.new handler.new
+    ) -> io::Result<bool>
+        ensures acts { Traces W.performs H.steps world.old handler.old world.new handler.new
             (λ acts. AllByRecursion IsAside acts
-            × AreFollowed self.old.slots.items self.new.slots.items acts) }
+            × AreFollowed self.old.slots.items self.new.slots.items acts × IsTimed acts) }
+        ensures first { self.new.first ≡ self.old.first }
+        ensures count { length self.new.slots.items ≡ length self.old.slots.items }
+        ensures idle { result ≡ Ok false
+            → IsIdleAt now.old (slice_get self.old.slots.items index) }
+        ensures gone_on { result ≡ Ok true
+            → HasGoneOn now.new (slice_get self.new.slots.items index) }
     {
         if index >= self.slots.len() {
-            return false;
+            return Ok(false);
         }
         let closes = match &mut self.slots[index] {
-            Some(stream) if stream.deadline() <= now => {
-                stream.go_on(world, index, handler, buffer, now, is_busy)
+            Some(stream) if stream.deadline() <= *now => {
+                stream.go_on(world, index, handler, buffer, now, is_busy)?
             }
-            _ => return false,
+            Some(_) => return Ok(false),
+            None => return Ok(false),
         };
         if closes {
             self.close(world, index);
         }
-        true
+        Ok(true)
     }
 
     /// Returns the number of connections with a reply of several messages that waits.
@@ -238,23 +263,23 @@ impl StreamTable {
         count_transfers(self.slots.as_slice())
     }
 
-    /// Removes the places after the last connection.
-    fn trim(&mut self)
-        ensures { AreKept self.old.slots.items self.new.slots.items }
-    {
-        for _slot in 0..self.slots.len() {
-            if !matches!(self.slots.as_slice().last(), Some(None)) {
-                return;
-            }
-            let _none = self.slots.pop();
-        }
-    }
-
     /// Returns when a connection next has something to do without its peer.
     pub(crate) fn deadline(&self) -> Milliseconds
         ensures { result ≡ earliest slot_deadline self.now.slots.items }
     {
         earliest_slot(self.slots.as_slice())
+    }
+}
+
+/// Removes the places after the last connection.
+fn trim(slots: &mut Vec<Option<Stream>>)
+    ensures { AreKept slots.old.items slots.new.items }
+{
+    for _slot in 0..slots.len() {
+        if !matches!(slots.as_slice().last(), Some(None)) {
+            return;
+        }
+        let _none = slots.pop();
     }
 }
 

@@ -1,24 +1,15 @@
-use Rattle.std.proofs.Common.{◌∙◌, List, [], ◌∷◌, ap, arith, inl, map, refl, subst}
-use Rattle.dns_faults.specs.declared.rules.fault.Transport.TheVariants as Transport
-use Rattle.dns_sockets.specs.Datagrams.{content_at}
+use Rattle.std.proofs.Common.{◌∙◌, List, [], ◌∷◌, ap, inl, inr, map, refl}
 use Rattle.dns_sockets.specs.Handler.{Handled, RequestContent, deliveries_if, request_content}
-use Rattle.dns_sockets.proofs.DeliveryLaws.{requests_more, requests_whole}
+use Rattle.dns_sockets.proofs.DeliveryLaws.{no_deliveries}
 use Rattle.dns_sockets.proofs.datagrams.deliveries_of.Goals as goal
 
-pub loop-datagram-init : goal.loop-datagram-init
-loop-datagram-init g c = ap (map request_content) c.new-requests.ensures.items
-
-pub loop-datagram-preserved : goal.loop-datagram-preserved
-loop-datagram-preserved g c =
-    requests_more c.args.now c.loop-datagram.datagram-index c.args.gathered.now _ c.loop-datagram.requests.items c.push.new.self.items _ c.loop-datagram-test.true c.in_ok-push.ensures.items
-    ((λ j. record { bytes = c.as_slice.ensures.value j; peer = c.datagram-item.result.peer; transport = Transport.Datagram; moment = c.args.now }) ∙ ap (content_at c.args.now) c.datagram-item.is)
-    c.loop-datagram.invariant
+pub returns-in_err-requests : goal.returns-in_err-requests
+returns-in_err-requests g c = record { events = []; led = refl; holds = inr (refl, no_deliveries _ c.from_residual.ensures.0) }
 
 pub returns : goal.returns
 returns g c = record {
-  events = Handled (map request_content c.as_slice-2.result.now) (deliveries_if c.handle.result) ∷ [];
+  events = Handled (map request_content c.as_slice.result.now) (deliveries_if c.handle.result) ∷ [];
   led = (c.handle.new.self, (c.handle.ensures, refl));
   holds = inl (ap (λ (requests : List RequestContent). Handled requests (deliveries_if c.handle.result) ∷ [])
-      (ap (map request_content) c.as_slice-2.ensures.value
-      ∙ requests_whole c.args.now c.loop-datagram.datagram-index c.args.gathered.now c.loop-datagram.requests.items (omega (arith, c.loop-datagram-test.false)) c.loop-datagram.invariant));
+      (ap (map request_content) c.as_slice.ensures.value ∙ c.in_ok-requests.ensures));
 }

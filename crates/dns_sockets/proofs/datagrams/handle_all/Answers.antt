@@ -1,41 +1,25 @@
-use Rattle.std.proofs.Common.{◌≡◌, ◌∙◌, ◌++◌, [], ap, map, refl, subst, List, Option, Some, None}
-use Rattle.dns_faults.specs.declared.delivery.Delivery.{Delivery}
-use Rattle.dns_sockets.specs.Datagrams.{HandlesIf}
-use Rattle.dns_sockets.specs.Handler.{deliveries_if}
-use Rattle.dns_sockets.specs.Trace.{At, By, Socket}
-use Rattle.dns_sockets.proofs.TraceLaws.{leads_at, leads_both, leads_by}
+use Rattle.std.proofs.Common.{◌∷◌, [], None, Some, arith, inl, inr, refl}
+use Rattle.std.proofs.lemmas.Bool.Decides.{nat_tests}
+use Rattle.dns_sockets.specs.Trace.{At}
+use Rattle.dns_sockets.specs.World.{Clocked}
+use Rattle.dns_sockets.proofs.DeliveryLaws.{none_gathered}
 use Rattle.dns_sockets.proofs.datagrams.handle_all.Goals as goal
+
+pub returns-then-is_empty : goal.returns-then-is_empty
+returns-then-is_empty g c = record { acts = []; leads = (refl, refl); holds = inl (refl, (none_gathered c.args.gathered.now (grind (arith, nat_tests, c.if-is_empty.ensures)), refl)) }
+
+pub returns-in_err-now : goal.returns-in_err-now
+returns-in_err-now g c = record {
+  acts = At (Clocked None) ∷ [];
+  leads = (c.now.new.self, (c.in_err-now.ensures, (refl, refl)));
+  holds = inr (None, [], (refl, (refl, refl)));
+}
 
 pub returns : goal.returns
 returns g c =
-    let called = c.deliveries_of.ensures in
-    let sent = c.deliver_all.ensures in
-    let performs = g.W.World.performs in
-    let steps = g.H.Handler.steps in
+    let done = c.handle_at.ensures in
     record {
-      acts = map (By (Socket c.args.index)) called.events ++ map At sent.events;
-      leads = leads_both performs steps c.args.world.now c.args.world.now c.deliver_all.new.world c.args.handler.now c.deliveries_of.new.handler c.deliveries_of.new.handler _ _
-          (leads_by performs steps (Socket c.args.index) c.args.world.now c.args.handler.now c.deliveries_of.new.handler called.events called.led)
-          (leads_at performs steps c.args.world.now c.deliver_all.new.world c.deliveries_of.new.handler sent.events sent.led);
-      holds = (
-        Some c.in-Ok.deliveries.items,
-        called.events,
-        sent.events,
-        (refl, (subst (λ (outcome : Option (List Delivery)). HandlesIf c.args.now c.args.gathered.now called.events outcome) (ap deliveries_if c.in-Ok.is) called.holds, sent.holds)),
-      );
-    }
-
-pub returns-in_default : goal.returns-in_default
-returns-in_default g c =
-    let called = c.deliveries_of.ensures in
-    record {
-      acts = map (By (Socket c.args.index)) called.events ++ [];
-      leads = leads_both g.W.World.performs g.H.Handler.steps c.args.world.now c.args.world.now c.args.world.now c.args.handler.now c.deliveries_of.new.handler c.deliveries_of.new.handler _ []
-          (leads_by g.W.World.performs g.H.Handler.steps (Socket c.args.index) c.args.world.now c.args.handler.now c.deliveries_of.new.handler called.events called.led) (refl, refl);
-      holds = (
-        None,
-        called.events,
-        [],
-        (refl, (subst (λ (outcome : Option (List Delivery)). HandlesIf c.args.now c.args.gathered.now called.events outcome) (ap deliveries_if c.in_default.is) called.holds, (refl, refl))),
-      );
+      acts = At (Clocked (Some c.in_ok-now.now)) ∷ done.acts;
+      leads = (c.now.new.self, (c.in_ok-now.ensures, done.leads));
+      holds = inr (Some c.in_ok-now.now, done.acts, (refl, done.holds));
     }

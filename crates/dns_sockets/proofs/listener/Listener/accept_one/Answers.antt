@@ -1,4 +1,4 @@
-use Rattle.std.proofs.Common.{◌∷◌, [], List, None, Option, Some, map, refl, subst, sym}
+use Rattle.std.proofs.Common.{◌∷◌, [], List, None, Option, Some, map, subst, sym}
 use Rattle.dns_sockets.specs.Connections.{AreFollowed}
 use Rattle.dns_sockets.specs.StreamTable.{closed_at}
 use Rattle.dns_sockets.specs.Trace.{At}

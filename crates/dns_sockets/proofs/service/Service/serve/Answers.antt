@@ -9,6 +9,17 @@ returns-in_err-now g c =
     serves_quiet g.W.World.performs g.H.Handler.steps c.args.world.now c.now.new.self c.args.handler.now c.args.self.now.waiting.items c.args.self.now.streams.slots.items
     (performs_one g.W.World.performs IsQuiet c.args.world.now c.now.new.self (clock_event c.now.result) c.now.ensures (clock_is_quiet c.now.result))
 
+pub returns-in_err-serve_datagrams : goal.returns-in_err-serve_datagrams
+returns-in_err-serve_datagrams g c =
+    let performs = g.W.World.performs in
+    let steps = g.H.Handler.steps in
+    let start = c.args.self.now.waiting in
+    let streams = c.args.self.now.streams.slots.items in
+    let datagrams = c.serve_datagrams.new.self in
+    let at_clock = serves_quiet performs steps c.args.world.now c.now.new.self c.args.handler.now start.items streams (performs_one performs IsQuiet c.args.world.now c.now.new.self (clock_event c.now.result) c.now.ensures (clock_is_quiet c.now.result)) in
+    serves_then performs steps c.args.world.now c.now.new.self c.serve_datagrams.new.world c.args.handler.now c.args.handler.now c.serve_datagrams.new.handler start.items start.items datagrams.waiting.items
+    streams streams datagrams.streams.slots.items at_clock c.serve_datagrams.ensures
+
 pub returns-in_err-go_on : goal.returns-in_err-go_on
 returns-in_err-go_on g c =
     let performs = g.W.World.performs in
@@ -27,7 +38,7 @@ returns-in_err-go_on g c =
     c.accept.ensures.waiting in
     let at_streams = serves_then performs steps c.args.world.now c.accept.new.world c.go_on.new.world c.args.handler.now c.serve_datagrams.new.handler c.go_on.new.handler start.items accepted.waiting.items accepted.waiting.items
     streams accepted.streams.slots.items c.go_on.new.self.slots.items at_listeners
-    (serves_streams performs steps c.accept.new.world c.go_on.new.world c.serve_datagrams.new.handler c.go_on.new.handler accepted.waiting.items accepted.streams.slots.items c.go_on.new.self.slots.items c.go_on.ensures) in
+    (serves_streams performs steps c.accept.new.world c.go_on.new.world c.serve_datagrams.new.handler c.go_on.new.handler accepted.waiting.items accepted.streams.slots.items c.go_on.new.self.slots.items c.go_on.ensures.acts) in
     at_streams
 
 pub returns : goal.returns
@@ -48,7 +59,7 @@ returns g c =
     c.accept.ensures.waiting in
     let at_streams = serves_then performs steps c.args.world.now c.accept.new.world c.go_on.new.world c.args.handler.now c.serve_datagrams.new.handler c.go_on.new.handler start.items accepted.waiting.items accepted.waiting.items
     streams accepted.streams.slots.items c.go_on.new.self.slots.items at_listeners
-    (serves_streams performs steps c.accept.new.world c.go_on.new.world c.serve_datagrams.new.handler c.go_on.new.handler accepted.waiting.items accepted.streams.slots.items c.go_on.new.self.slots.items c.go_on.ensures) in
+    (serves_streams performs steps c.accept.new.world c.go_on.new.world c.serve_datagrams.new.handler c.go_on.new.handler accepted.waiting.items accepted.streams.slots.items c.go_on.new.self.slots.items c.go_on.ensures.acts) in
     let slots = c.go_on.new.self.slots.items in
     let at_due = serves_then performs steps c.args.world.now c.go_on.new.world c.send_due.new.world c.args.handler.now c.go_on.new.handler c.go_on.new.handler start.items accepted.waiting.items c.send_due.new.waiting.items
     streams slots slots at_streams

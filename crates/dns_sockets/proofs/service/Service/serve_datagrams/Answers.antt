@@ -9,3 +9,9 @@ loop-index-preserved g c =
     serves_then g.W.World.performs g.H.Handler.steps c.args.world.now c.loop-index.world c.serve_socket.new.world c.args.handler.now c.loop-index.handler c.serve_socket.new.handler
     c.args.self.now.waiting.items c.loop-index.self.waiting.items c.serve_socket.new.self.waiting.items
     c.args.self.now.streams.slots.items c.loop-index.self.streams.slots.items c.serve_socket.new.self.streams.slots.items c.loop-index.invariant c.serve_socket.ensures
+
+pub returns-in_err-serve_socket : goal.returns-in_err-serve_socket
+returns-in_err-serve_socket g c =
+    serves_then g.W.World.performs g.H.Handler.steps c.args.world.now c.loop-index.world c.serve_socket.new.world c.args.handler.now c.loop-index.handler c.serve_socket.new.handler
+    c.args.self.now.waiting.items c.loop-index.self.waiting.items c.serve_socket.new.self.waiting.items
+    c.args.self.now.streams.slots.items c.loop-index.self.streams.slots.items c.serve_socket.new.self.streams.slots.items c.loop-index.invariant c.serve_socket.ensures

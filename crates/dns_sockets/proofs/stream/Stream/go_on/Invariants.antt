@@ -2,6 +2,7 @@
 use Rattle.std.proofs.Common.{false}
 use Rattle.std.specs.List.{AllByRecursion}
 use Rattle.dns_sockets.specs.Connections.{connection_of}
+use Rattle.dns_sockets.specs.Moments.{IsTimed}
 use Rattle.dns_sockets.specs.StreamSteps.{Leaves}
 use Rattle.dns_sockets.specs.Trace.{IsOfStream, Traces}
 use Rattle.dns_sockets.proofs.stream.Stream.go_on.Given as goal
@@ -9,4 +10,4 @@ use Rattle.dns_sockets.proofs.stream.Stream.go_on.Given as goal
 abbrev pub invariant-loop-step : goal.invariant-loop-step
 invariant-loop-step g l =
     Traces g.W.World.performs g.H.Handler.steps l.initial.world l.initial.handler l.world l.handler
-    (λ acts. AllByRecursion (IsOfStream l.index) acts × Leaves false l.index (connection_of l.initial.self) acts (connection_of l.self))
+    (λ acts. AllByRecursion (IsOfStream l.index) acts × Leaves false l.index (connection_of l.initial.self) acts (connection_of l.self) × IsTimed acts)

@@ -1,4 +1,4 @@
-use Rattle.std.proofs.Common.{◌≡◌, [], ◌∷◌, List, ℕ, arith, inl, length, refl, subst}
+use Rattle.std.proofs.Common.{[], ◌∷◌, List, ℕ, arith, inl, refl, subst}
 use Rattle.std.proofs.lemmas.List.{length-append, length-drop, length-take}
 use Rattle.dns_sockets.specs.Connections.{connection_of, read_after}
 use Rattle.dns_sockets.specs.StreamSteps.{StaysUnless, bytes_read, ends}

@@ -1,10 +1,9 @@
-use Rattle.std.proofs.Common.{[], ◌∷◌, List, ℕ, Option, Some, None, ap, refl, subst}
+use Rattle.std.proofs.Common.{[], ◌∷◌, List, ℕ, Option, Some, None, refl, subst}
 use Rattle.std.specs.Global.{Vec}
 use Rattle.std.specs.Prelude.{is_err}
 use Rattle.dns_sockets.specs.Handler.{RequestContent, Transferred, messages_of, request_content}
 use Rattle.dns_sockets.specs.Stream.{AreHandled}
 use Rattle.dns_sockets.specs.StreamSteps.{IsAnswered}
-use Rattle.dns_sockets.proofs.StreamLaws.{one_answered}
 use Rattle.dns_sockets.proofs.StreamStepLaws.{refused_answered, then_answered, transfer_on, transferred_at_least}
 use Rattle.dns_sockets.proofs.stream.Stream.respond_to_one.Goals as goal
 

@@ -1,5 +1,4 @@
-use Rattle.std.proofs.Common.{[], ◌∷◌, Some, ap, map, refl}
-use Rattle.std.specs.Prelude.{is_err}
+use Rattle.std.proofs.Common.{[], ◌∷◌, Some, map, refl}
 use Rattle.dns_sockets.specs.Handler.{Handled, deliveries_if, request_content}
 use Rattle.dns_sockets.proofs.StreamStepLaws.{handled_at_least, refused_answered, together_on}
 use Rattle.dns_sockets.proofs.stream.Stream.respond_together.Goals as goal
