@@ -48,6 +48,8 @@ SENTENCES = {
     "byte-order mark": "a byte-order mark at the start of the file",
 }
 A, MX, SRV = 1, 15, 33
+# How many characters of a word at fault the program shows.
+MAX_WORD = 60
 # A finding is in a file or in one that it includes.
 FINDING = re.compile(r"(\d+)/(?:t\.zone|inc)(?::(\d+))?: (fault|warning|zone)(?::? (.*))?\Z", re.S)
 
@@ -55,6 +57,8 @@ FINDING = re.compile(r"(\d+)/(?:t\.zone|inc)(?::(\d+))?: (fault|warning|zone)(?:
 def special_sentence(refusal: Refusal) -> str | None:
     """What the program says of a frequent mistake, by the word at fault."""
     reason, word = str(refusal), refusal.word or b""
+    if reason == "InvalidName" and re.fullmatch(rb"[0-9A-Fa-f.]*:[0-9A-Fa-f.:]*", word):
+        return "an address where a name belongs"
     if reason == "InvalidName" and b"@" in word:
         return "a mail address, which a zone file writes as a name"
     if reason in ("InvalidOwner", "InvalidName") and word[:1] == b"-":
@@ -112,7 +116,8 @@ def finding_of(refusal: Refusal) -> tuple[int | None, str]:
     """The line of a fault, and what is said of it. A word with other characters than printable ones may be shown otherwise."""
     said = sentence_of(refusal)
     if refusal.word is not None:
-        said += f": `{refusal.word.decode()}`"
+        word = refusal.word.decode()
+        said += f": `{word if len(word) <= MAX_WORD else word[:MAX_WORD] + '...'}`"
     return refusal.line, said
 
 

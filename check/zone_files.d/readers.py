@@ -120,14 +120,14 @@ KNOWN = (
     ("an owner outside the origin", re.compile(r"an owner outside the zone's origin"), "RFC 1034 section 4.2: a zone's data is at and below its origin"),
     ("a type without a format", re.compile(r"a type whose data cannot be written here"), "RFC 3597 section 5: such data is written as bytes"),
     ("a type without a mnemonic", re.compile(r"not a type that is known here: `[A-Z0-9-]+`"), "RFC 3597 section 5: such a type is written TYPE and its number"),
-    ("a character that a name escapes", re.compile(r"(not a name|an owner that is not a name|a mail address|begins with a hyphen|^zonecheck: invalid value)"), "RFC 1035 sections 2.3.1 and 5.1: such characters are written as \\DDD"),
+    ("a character that a name escapes", re.compile(r"(not a name|an owner that is not a name|an address where a name belongs|a mail address|begins with a hyphen|^zonecheck: invalid value)"), "RFC 1035 sections 2.3.1 and 5.1: such characters are written as \\DDD"),
     ("data of no bytes", re.compile(r"data of no bytes"), "RFC 3597 section 5: a record of a zone has data here"),
     ("a padded hash", re.compile(r"not base32hex: `[A-Z0-9]+=+`"), "RFC 5155 section 3.3: the hash of a next owner has no padding"),
     ("a negative number of a $GENERATE", re.compile(r"a number of a \$GENERATE below 0"), "an extension of BIND: its numbers are from 0 to 2^31 - 1 here"),
     ("a directive of BIND", re.compile(r"not a directive here: `\$DATE`"), "an extension of BIND, which RFC 1035 section 5.1 does not have"),
     ("a TTL that is missing", re.compile(r"the TTL is missing"), "RFC 2308 section 4: no TTL was stated, and $TTL is not there"),
     ("an owner that is missing", re.compile(r"no record above to take the owner from"), "RFC 1035 section 5.1: a blank stands for the last stated owner"),
-    ("data of another length", re.compile(r"bytes that are not data of this type: `[0-9A-Fa-f]+`"), "RFC 3597 section 5: the bytes are data of the type"),
+    ("data of another length", re.compile(r"bytes that are not data of this type: `[0-9A-Fa-f]+(\.\.\.)?`"), "RFC 3597 section 5: the bytes are data of the type"),
     ("another class", re.compile(r"a record whose class is not IN"), "RFC 1035 section 5.2: a file has one class, which is IN here"),
 )
 # TTLs that a file omits (RFC 1035 section 5.1: the last one stated; RFC 2308 section 4: that of $TTL).

@@ -11,7 +11,7 @@ ZONES = {
     "faults.zone": '$ORIGIN t.\n@ 60 SOA ns.u. h 1 2 3 4 5\na 60 TXT "x: fault: y\n@ 60 MX 1 m\n@ 60 MX m\n',
     "no_soa.zone": "a: warning: 60 A 10.0.0.1\n",
     "warnings.zone": "$ORIGIN t.\n@ 60 SOA ns.u. h 1 2 3 4 5\n@ 60 MX 1 m\na 60 CNAME b\na 30 CNAME b\n",
-    "good.zone": "$ORIGIN t.\n@ 60 SOA ns.u. h 1 2 3 4 5\n",
+    "good.zone": "$ORIGIN t.\n@ 60 SOA ns.u. h 1 2 3 4 5\n@ 60 NS ns.u.\n",
 }
 
 

@@ -107,7 +107,7 @@ cons_empty x xs e = cc
 abbrev json_front : List ℕ → Said → List ℕ
 json_front file s =
     codes "{\"file\":\"" ++ shown Json file ++ codes "\",\"line\":" ++ number_part s.line ++ codes ",\"kind\":\""
-    ++ severity_name s.severity ++ codes "\",\"message\":\"" ++ shown Json s.advice.reason ++ word_part Json s.word
+    ++ severity_name s.severity ++ codes "\",\"message\":\"" ++ shown Json s.advice.reason ++ word_part Json s.severity s.word
     ++ codes "\",\"hint\":\"" ++ shown Json s.advice.hint
 
 some_text : (format : ReportFormat) (file : List ℕ) (lines : List (List ℕ)) (s : Said) → finding_text format file lines s ≡ [] → ⊥

@@ -63,7 +63,21 @@ half_of name = trim_to name (num_labels name.labels / 2)
 abbrev pub apex_by : DomainName → DomainName
 apex_by owner = if is_doubled (half_of owner) owner then half_of owner else owner
 
--- the origin that was given, or else that of the first SOA record
+-- the origin by an entry, if that has a fault and is meant as an SOA record
+abbrev pub meant_by : EntryLine → Option DomainName
+meant_by (entry.Record r) = None
+meant_by (entry.Fault f) = f.apex
+
+-- the origin by the first such entry
+abbrev pub first_meant : List EntryLine → Option DomainName
+first_meant [] = None
+first_meant (e ∷ entries) = elim (meant_by e) [ Some apex ↦ Some apex | None ↦ first_meant entries ]
+
+-- the owner of the first SOA record, or else the origin by the first entry that is meant as one
+abbrev pub start_owner : List EntryLine → Option DomainName
+start_owner entries = elim (first_start entries) [ Some r ↦ Some r.owner | None ↦ first_meant entries ]
+
+-- the origin that was given, or else that of the first SOA record, or of the first entry that is meant as one
 abbrev pub apex_of : Option DomainName → List EntryLine → Option DomainName
 apex_of (Some origin) entries = Some (record origin { is_fqdn = true })
-apex_of None entries = option_map (λ r. apex_by r.owner) (first_start entries)
+apex_of None entries = option_map apex_by (start_owner entries)

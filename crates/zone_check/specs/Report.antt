@@ -1,5 +1,6 @@
 -- What is said of a zone file: its faults, and then its warnings, in the order of its lines.
-use Rattle.std.specs.Prelude.{if◌then◌else◌, is_some, ℕ, Bool, true, false, List, [], ◌∷◌, ◌++◌, flat_map, slice_get, Option, Some, None, option_map, option_and_then, Result, Ok, Err}
+use Rattle.std.specs.Prelude.{if◌then◌else◌, is_some, ℕ, Bool, true, false, List, [], ◌∷◌, ◌++◌, codes, flat_map, slice_get, Option, Some, None, option_map, option_and_then, Result, Ok, Err}
+use Rattle.std.specs.Fmt.{decimal}
 use Rattle.std.specs.Option.{option_to_list}
 use Rattle.dns_names.specs.Name.{DomainName}
 use Rattle.dns_names.specs.Print.{text_of_name}
@@ -21,6 +22,8 @@ use Rattle.zone_lines.specs.Line.{lines_of_file}
 use Rattle.zone_lines.specs.Source.{FileText}
 use Rattle.zone_lines.specs.declared.record_line.EntryLine.{EntryLine}
 use Rattle.zone_lines.specs.declared.record_line.EntryLine.TheVariants as entry
+use Rattle.zone_lines.specs.declared.warnings.digest.DigestLengths.{DigestLengths}
+use Rattle.zone_lines.specs.warnings.Digest.{wrong_digest}
 use Rattle.zone_lines.specs.warnings.Names.{doubled_origin, name_below}
 use Rattle.zone_lines.specs.declared.warnings.kind.Warning.{Warning}
 use Rattle.zone_lines.specs.declared.warnings.kind.WarningKind.{WarningKind}
@@ -81,15 +84,31 @@ word_said word w = record {
   advice = warning_sentences w.kind;
 }
 
--- what is said of a warning that shows a name, if there is one
-abbrev pub warning_said : Option DomainName → Warning → Said
-warning_said name w = word_said (option_map text_of_name name) w
-
 -- the name that a kind of warning about an entry shows: of a missing dot, the one that ends in the origin twice, as it is
 -- completed
 abbrev pub shown_name : Option DomainName → EntryLine → WarningKind → Option DomainName
 shown_name (Some doubled) (entry.Record r) about.MissingDot = name_below doubled r
 shown_name doubled e kind = None
+
+-- the lengths that a kind of warning about an entry shows: of a digest that has another than its type
+abbrev pub shown_lengths : EntryLine → WarningKind → Option DigestLengths
+shown_lengths (entry.Record r) about.WrongDigest = wrong_digest r.rdata
+shown_lengths e kind = None
+
+-- `2 bytes, not 32`
+abbrev pub lengths_part : ℕ → ℕ → List ℕ
+lengths_part found wanted = decimal found ++ codes " bytes, not " ++ decimal wanted
+
+-- the lengths of a digest, as they are shown
+abbrev pub lengths_text : DigestLengths → List ℕ
+lengths_text lengths = lengths_part lengths.found lengths.wanted
+
+-- what a kind of warning about an entry shows: lengths, or a name
+abbrev pub shown_word : Option DomainName → EntryLine → WarningKind → Option (List ℕ)
+shown_word doubled e kind = elim (shown_lengths e kind) [
+  | Some lengths ↦ Some (lengths_text lengths)
+  | None ↦ option_map text_of_name (shown_name doubled e kind)
+]
 
 -- the origin with its labels once more, if it is known
 abbrev pub doubled_apex : Start → Option DomainName
@@ -98,7 +117,7 @@ doubled_apex z = option_and_then doubled_origin z.apex
 -- what is said of a warning about an entry: nothing if the entry has a fault
 abbrev pub entry_warned : Start → Warning → EntryLine → List Said
 entry_warned z w e =
-    if is_some (entry_said z e) then [] else warning_said (shown_name (doubled_apex z) e w.kind) w ∷ []
+    if is_some (entry_said z e) then [] else word_said (shown_word (doubled_apex z) e w.kind) w ∷ []
 
 -- what is said of warnings about entries
 abbrev pub said_of_warning : Start → List EntryLine → Warning → List Said

@@ -1,7 +1,7 @@
 //! The origin of a zone file, also of one with faults.
 
 ghost use Rattle.std.specs.Prelude.{◌≡◌, IfOk, option_copied};
-ghost use Rattle.zone_check.specs.Apex.{apex_by, apex_of, first_start, has_start, is_doubled, is_start_at, is_start_record, may_start, some_starts, start_of};
+ghost use Rattle.zone_check.specs.Apex.{apex_by, apex_of, first_meant, first_start, has_start, is_doubled, is_start_at, is_start_record, may_start, meant_by, some_starts, start_of, start_owner};
 
 use dns_data::RData;
 use dns_names::Name;
@@ -9,8 +9,9 @@ use std::alloc::AllocError;
 use zone_lines::warnings::doubled_origin;
 use zone_lines::{EntryLine, RecordLine};
 
-/// Returns the origin of a zone file: the one that is given, or else the owner of the first SOA record. If this owner lacks a
-/// dot, so that the origin stands in it twice, the origin is its last half.
+/// Returns the origin of a zone file: the one that is given, or else the owner of the first SOA record, or else the origin by the
+/// first entry with a fault that is meant as one. If this name lacks a dot, so that the origin is in it twice, the origin is its
+/// last half.
 pub(crate) fn apex_of(
     origin: Option<&Name>,
     entries: &[EntryLine],
@@ -23,10 +24,42 @@ pub(crate) fn apex_of(
             origin.set_fqdn(true);
             Ok(Some(origin))
         }
-        None => match first_start(entries) {
-            Some(start) => Ok(Some(apex_by(&start.owner)?)),
+        None => match start_owner(entries) {
+            Some(owner) => Ok(Some(apex_by(owner)?)),
             None => Ok(None),
         },
+    }
+}
+
+/// Returns the owner of the first SOA record, or else the origin by the first entry with a fault that is meant as one.
+fn start_owner(entries: &[EntryLine]) -> Option<&Name>
+    ensures { option_copied result ≡ start_owner entries.now }
+{
+    match first_start(entries) {
+        Some(start) => Some(&start.owner),
+        None => first_meant(entries),
+    }
+}
+
+/// Returns the origin by the first entry with a fault that is meant as an SOA record.
+fn first_meant(entries: &[EntryLine]) -> Option<&Name>
+    ensures { option_copied result ≡ first_meant entries.now }
+{
+    for entry in entries {
+        if let Some(apex) = meant_by(entry) {
+            return Some(apex);
+        }
+    }
+    None
+}
+
+/// Returns the origin by an entry, if that has a fault and is meant as an SOA record.
+fn meant_by(entry: &EntryLine) -> Option<&Name>
+    ensures { option_copied result ≡ meant_by entry.now }
+{
+    match entry {
+        EntryLine::Record(_) => None,
+        EntryLine::Fault(fault) => fault.apex.as_ref(),
     }
 }
 

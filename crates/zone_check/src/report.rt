@@ -1,9 +1,9 @@
 //! The text of the check of a zone file.
 
-ghost use Rattle.std.specs.Prelude.{◌≡◌, ◌↔◌, ◌++◌, [], IfOk, IsOk, OnOk, map, option_copied, string_bytes};
+ghost use Rattle.std.specs.Prelude.{◌≡◌, ◌↔◌, ◌++◌, [], IfOk, IsOk, OnOk, map, option_copied, option_map, string_bytes};
 ghost use Rattle.zone_check.specs.Fault.{start_view};
-ghost use Rattle.zone_check.specs.Files.{files_view, finding_in, names_view, report_text};
-ghost use Rattle.zone_check.specs.Report.{doubled_apex, entries_said, entry_warned, file_said, marks_said, outcome_said, parts_said, said_of_warning, said_of_warnings, shown_name, warning_said, warnings_said, whole_said, word_said, zone_report};
+ghost use Rattle.zone_check.specs.Files.{files_view, names_view, report_text};
+ghost use Rattle.zone_check.specs.Report.{doubled_apex, entries_said, entry_warned, file_said, lengths_part, lengths_text, marks_said, outcome_said, parts_said, said_of_warning, said_of_warnings, shown_lengths, shown_name, shown_word, warnings_said, whole_said, word_said, zone_report};
 ghost use Rattle.zone_check.specs.findings.Finding.{said_by};
 ghost use Rattle.zone_lines.specs.Source.{text_view};
 
@@ -16,7 +16,9 @@ use crate::mark::mark_text;
 use dns_names::Name;
 use dns_zone::ZoneFault;
 use std::alloc::{AllocError, Global};
-use zone_lines::warnings::{Warning, WarningKind, doubled_origin, name_below};
+use zone_lines::warnings::{
+    DigestLengths, Warning, WarningKind, doubled_origin, name_below, wrong_digest,
+};
 use zone_lines::{EntryLine, ZoneText, lines_of_file};
 
 /// Returns what is to be said of a zone file, each fault and then each warning, in the order of its lines. It is empty if there
@@ -211,8 +213,12 @@ fn push_entry_warning(
         return Ok(());
     }
     let doubled = doubled_apex(start)?;
-    let name = shown_name(doubled.as_ref(), entry, warning);
-    push_named_warning(alloc, format, report, files, name, warning)
+    let word = shown_word(alloc, doubled.as_ref(), entry, warning)?;
+    let shown = match &word {
+        Some(word) => Some(word.as_str()),
+        None => None,
+    };
+    files.push(alloc, format, report, &warning_finding(warning, shown))
 }
 
 /// Returns the origin with its labels once more, if it is known and that is a name.
@@ -225,26 +231,57 @@ fn doubled_apex(start: &ZoneStart<'_>) -> Result<Option<Name>, AllocError>
     }
 }
 
-/// Appends what is said of a warning that shows a name, if there is one.
-fn push_named_warning(
+/// Returns what a warning about an entry shows: the lengths of a digest, or a name.
+fn shown_word(
     alloc: Global,
-    format: ReportFormat,
-    report: &mut String,
-    files: Files<'_, '_, '_>,
-    name: Option<&Name>,
+    doubled: Option<&Name>,
+    entry: &EntryLine,
     warning: Warning,
-) -> Result<(), AllocError>
-    ensures { OnOk result (string_bytes report.new ≡ string_bytes report.old
-        ++ finding_in format (files_view files.entry) (warning_said (option_copied name.entry) warning)) }
+) -> Result<Option<String>, AllocError>
+    ensures { IfOk result (λ word. option_map string_bytes word
+        ≡ shown_word (option_copied doubled.entry) entry.now warning.kind) }
 {
-    match name {
-        Some(name) => {
-            let word = name.to_ascii()?;
-            let finding = warning_finding(warning, Some(word.as_str()));
-            files.push(alloc, format, report, &finding)
-        }
-        None => files.push(alloc, format, report, &warning_finding(warning, None)),
+    if let Some(lengths) = shown_lengths(entry, warning) {
+        return Ok(Some(lengths_text(alloc, lengths)?));
     }
+    match shown_name(doubled, entry, warning) {
+        Some(name) => Ok(Some(name.to_ascii()?)),
+        None => Ok(None),
+    }
+}
+
+/// Returns the lengths that a warning about an entry shows: of a digest that has another than its type.
+fn shown_lengths(entry: &EntryLine, warning: Warning) -> Option<DigestLengths>
+    ensures { result ≡ shown_lengths entry.now warning.kind }
+{
+    match (warning.kind, entry) {
+        (WarningKind::WrongDigest, EntryLine::Record(record_line)) => {
+            wrong_digest(&record_line.rdata)
+        }
+        _ => None,
+    }
+}
+
+/// Returns both lengths of a digest.
+fn lengths_text(alloc: Global, lengths: DigestLengths) -> Result<String, AllocError>
+    ensures { IfOk result (λ text. string_bytes text ≡ lengths_text lengths) }
+{
+    let mut text = String::new(alloc);
+    push_lengths(alloc, &mut text, lengths.found, lengths.wanted)?;
+    Ok(text)
+}
+
+/// Appends two lengths in bytes, of which the second is right.
+fn push_lengths(
+    alloc: Global,
+    text: &mut String,
+    found: usize,
+    wanted: usize,
+) -> Result<(), AllocError>
+    ensures { OnOk result (string_bytes text.new ≡ string_bytes text.old
+        ++ lengths_part found wanted) }
+{
+    text.push_str(format!(in alloc; "{found} bytes, not {wanted}")?.as_str())
 }
 
 /// Returns what is said of a warning that shows a word, if there is one.

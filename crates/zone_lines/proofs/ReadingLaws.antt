@@ -19,7 +19,7 @@ use Rattle.dns_zone_file.specs.declared.error.EntryFault.{EntryFault}
 use Rattle.dns_zone_file.specs.declared.error.ZoneFileError.TheVariants as file
 use Rattle.dns_zone_file.specs.declared.types.Types.{Types}
 use Rattle.dns_zone_file.specs.internal.Context.{saved_of, restored}
-use Rattle.zone_lines.specs.Reading.{Generated, RefusesAlone, Takes, no_more_texts, no_text, one_fault, Reads, ended, past_fault, past_entry, past_generated, past_included, too_deep, depth_fault, text_fault, type_of_entry}
+use Rattle.zone_lines.specs.Reading.{Generated, RefusesAlone, Takes, no_more_texts, no_text, one_fault, Reads, ended, past_fault, past_entry, past_generated, past_included, too_deep, depth_fault, text_fault, stated_origin, meant_apex, type_of_entry}
 use Rattle.zone_lines.specs.Reading.{after_fault as after_fault_of}
 use Rattle.zone_lines.specs.Skip.{Resumes}
 use Rattle.zone_lines.specs.Word.{HasFaultyToken, names_start}
@@ -167,7 +167,7 @@ module _ {includes : Includes} {depth source : ℕ} {first here : Spot} {found :
 
   pub goes_past : (then : Context) (entry line next : ℕ) (rest : List ℕ) (lexer : LexerState) (f : FaultLine) (pushed : List EntryLine)
       → then ≡ here.context → entry ≡ here.lexer.entry → line ≡ line_of error → Resumes here.base here.text entry line next rest
-      → length rest < length here.text → f ≡ text_fault source here.base error → pushed ≡ found ++ kind.Fault f ∷ [] → lexer ≡ start_in then.types rest
+      → length rest < length here.text → f ≡ text_fault source here.base (stated_origin then) error → pushed ≡ found ++ kind.Fault f ∷ [] → lexer ≡ start_in then.types rest
       → Leads includes depth source first pushed (record { base = next; text = rest; closed = here.closed; context = then; lexer = lexer })
   goes_past then entry line next rest lexer f pushed same entry_is line_is resumes shorter fault_is is lexer_is =
       let whole = so_far.whole in
@@ -180,9 +180,10 @@ module _ {includes : Includes} {depth source : ℕ} {first here : Spot} {found :
             subst (λ (c : Context). Reads includes depth source next rest here.closed c (start_in c.types rest) more shut last) same
             (subst (λ (p : LexerState). Reads includes depth source next rest here.closed then p more shut last) lexer_is rest_reads) in
             subst (λ (l : List EntryLine). ReadsOn includes depth source first l shut last)
-            (sym (ap (λ (l : List EntryLine). l ++ more) (is ∙ ap (λ (g : FaultLine). found ++ kind.Fault g ∷ []) fault_is)
-            ∙ append_assoc found (kind.Fault (text_fault source here.base error) ∷ []) more))
-            (so_far.leads (kind.Fault (text_fault source here.base error) ∷ more) shut last (past_fault refused there reads));
+            (sym (ap (λ (l : List EntryLine). l ++ more) (is ∙ ap (λ (g : FaultLine). found ++ kind.Fault g ∷ [])
+            (fault_is ∙ ap (λ (d : Context). text_fault source here.base (stated_origin d) error) same))
+            ∙ append_assoc found (kind.Fault (text_fault source here.base (stated_origin here.context) error) ∷ []) more))
+            (so_far.leads (kind.Fault (text_fault source here.base (stated_origin here.context) error) ∷ more) shut last (past_fault refused there reads));
         within = subst (λ (p : LexerState). length p.text ≤ length rest) (sym lexer_is) (omega arith);
         whole = omega arith;
         begun = inl lexer_is;
@@ -278,9 +279,9 @@ step_included includes depth closed at c then tokens i (step.Breaks entry refusa
 pub faulted : (includes : Includes) (depth : ℕ) (closed : Bool) (old between new : Context) (at : Position) (tokens : List Lexeme) (refusal : EntryFault)
     (f : FaultLine) → RefusesAlone old tokens refusal → between ≡ old → f.source ≡ at.source → f.error ≡ file.Entry at.line refusal
     → HasFaultyToken between tokens (option_map string_bytes f.word) → f.record_type ≡ type_of_entry between.types tokens
-    → f.may_be_start ≡ names_start tokens → new ≡ after_fault_of between tokens refusal
+    → f.may_be_start ≡ names_start tokens → f.apex ≡ meant_apex between tokens → new ≡ after_fault_of between tokens refusal
     → Takes includes depth closed old at tokens (Some (kind.Fault f)) new
-faulted includes depth closed old between new at tokens refusal f refused same source_is error_is word type_is start_is after =
+faulted includes depth closed old between new at tokens refusal f refused same source_is error_is word type_is start_is apex_is after =
     subst (λ (d : Context). Takes includes depth closed old at tokens (Some (kind.Fault f)) d)
     (sym (after ∙ ap (λ (d : Context). after_fault_of d tokens refusal) same))
     (one_fault refused (record {
@@ -289,6 +290,7 @@ faulted includes depth closed old between new at tokens refusal f refused same s
       word_is = subst (λ (d : Context). HasFaultyToken d tokens (option_map string_bytes f.word)) same word;
       type_is = type_is ∙ ap (λ (t : Types). type_of_entry t tokens) (ap (λ (d : Context). d.types) same);
       start_is = start_is;
+      apex_is = apex_is ∙ ap (λ (d : Context). meant_apex d tokens) same;
     }))
 
 -- ---- the measure

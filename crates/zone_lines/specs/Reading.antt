@@ -5,6 +5,7 @@ use Rattle.std.specs.Option.{option_eq, option_map_or, option_to_list}
 use Rattle.std.specs.Str.{IsUtf8}
 use Rattle.dns_wire.specs.codes.CodeText.{or_else}
 use Rattle.dns_wire.specs.declared.codes.record_type.RecordType.{RecordType}
+use Rattle.dns_wire.specs.declared.codes.record_type.RecordType.TheVariants as types
 use Rattle.dns_names.specs.Name.{DomainName}
 use Rattle.dns_data.specs.rdata.{data_type}
 use Rattle.dns_records.specs.Record.{Record}
@@ -107,6 +108,28 @@ after_fault c tokens refusal = elim (entry_of tokens) [
 abbrev pub type_of_entry : Types → List Lexeme → Option RecordType
 type_of_entry types tokens = elim (fields_in types (drop 1 tokens)) [ Ok fields ↦ Some fields.record_type | Err refusal ↦ None ]
 
+-- a name, unless it has no labels
+abbrev pub unless_root : DomainName → List (List ℕ) → Option DomainName
+unless_root name [] = None
+unless_root name (label ∷ labels) = Some name
+
+-- the origin that completes names, unless it is the root
+abbrev pub stated_origin : Context → Option DomainName
+stated_origin c = unless_root c.origin c.origin.labels
+
+-- the owner of an entry, if it can be read, or else the origin
+abbrev pub owner_or_origin : Context → List Lexeme → Option DomainName
+owner_or_origin c tokens = elim (owner_of c tokens) [ Ok owner ↦ Some owner | Err refusal ↦ stated_origin c ]
+
+-- the same of an entry of the type SOA
+abbrev pub apex_of_type : Context → List Lexeme → Option RecordType → Option DomainName
+apex_of_type c tokens (Some types.SOA) = owner_or_origin c tokens
+apex_of_type c tokens other = None
+
+-- the origin of the zone, if an entry with a fault is meant as an SOA record
+abbrev pub meant_apex : Context → List Lexeme → Option DomainName
+meant_apex c tokens = apex_of_type c tokens (type_of_entry c.types tokens)
+
 -- what an entry is that a `$GENERATE` begins, if it has a range and a template
 abbrev pub directive_with : Option (List Lexeme) → Option Generation
 directive_with None = None
@@ -129,10 +152,18 @@ pub record IsFaultLine (c : Context) (at : Position) (tokens : List Lexeme) (ref
   pub word_is : HasFaultyToken c tokens (option_map string_bytes found.word)
   pub type_is : found.record_type ≡ type_of_entry c.types tokens
   pub start_is : found.may_be_start ≡ names_start tokens
+  pub apex_is : found.apex ≡ meant_apex c tokens
 
 -- the fault of an entry that includes a text, or of one of whose tokens nothing is known
 abbrev pub include_fault : ℕ → ZoneFileError → FaultLine
-include_fault source refusal = record { source = source; error = refusal; word = None; record_type = None; may_be_start = false }
+include_fault source refusal = record {
+  source = source;
+  error = refusal;
+  word = None;
+  record_type = None;
+  may_be_start = false;
+  apex = None;
+}
 
 -- the fault of an entry, at the text that the entry is in
 abbrev pub fault_at : Position → EntryFault → FaultLine
@@ -227,10 +258,16 @@ moved base (lexer.NestedList line) = lexer.NestedList (base + line)
 moved base (lexer.UnopenedList line) = lexer.UnopenedList (base + line)
 moved base (lexer.LoneBackslash line) = lexer.LoneBackslash (base + line)
 
--- where a text has a fault, there may be an SOA record
-abbrev pub text_fault : ℕ → ℕ → LexerError → FaultLine
-text_fault source base refusal =
-    record { source = source; error = error.Lexer (moved base refusal); word = None; record_type = None; may_be_start = true }
+-- where a text has a fault, there may be an SOA record, perhaps of the origin
+abbrev pub text_fault : ℕ → ℕ → Option DomainName → LexerError → FaultLine
+text_fault source base origin refusal = record {
+  source = source;
+  error = error.Lexer (moved base refusal);
+  word = None;
+  record_type = None;
+  may_be_start = true;
+  apex = origin;
+}
 
 -- Reads includes depth source base text closed c p found shut last: the entries of the rest of a text, from a state of the lexer
 -- and a context on, and the context at its end. The text is one of the file, without its first `base` lines, and nested in `depth`
@@ -244,7 +281,7 @@ pub data Reads (includes : Includes)
       {refusal : LexerError} {more : List EntryLine} → RefusesTokens p refusal
       → Resumes base text p.entry (line_of refusal) next rest
       → Reads includes depth source next rest closed c (start_in c.types rest) more shut last
-      → Reads includes depth source base text closed c p (kind.Fault (text_fault source base refusal) ∷ more) shut last
+      → Reads includes depth source base text closed c p (kind.Fault (text_fault source base (stated_origin c) refusal) ∷ more) shut last
   past_entry : {depth source base : ℕ} {text : List ℕ} {closed shut : Bool} {c then last : Context} {p next : LexerState}
       {tokens : List Lexeme} {found : Option EntryLine} {more : List EntryLine} → LexesEntry p tokens next
       → Takes includes depth closed c (record { source = source; line = base + p.entry }) tokens found then

@@ -4,4 +4,5 @@ pub mod Signature
 pub mod Places
 pub mod Survey
 pub mod Cuts
+pub mod Digest
 pub mod Warning

@@ -6,11 +6,11 @@ ghost use Rattle.dns_zone_file.specs.Parsing.{start_in, start_origin};
 ghost use Rattle.dns_zone_file.specs.internal.Entry.{inclusion_view};
 ghost use Rattle.dns_zone_file.specs.internal.Parsing.{includes_view};
 ghost use Rattle.zone_lines.specs.Source.{text_view};
-ghost use Rattle.zone_lines.specs.Reading.{Reads, ReadsFile, moved, text_fault};
+ghost use Rattle.zone_lines.specs.Reading.{Reads, ReadsFile, moved, stated_origin, text_fault};
 ghost use Rattle.zone_lines.specs.internal.Reading.{EntryStep, IncludeStep, TakesStep};
 
 use crate::context::{Effect, apply, recover};
-use crate::fault::{include_fault, type_of, word_of};
+use crate::fault::{include_fault, meant_apex, stated_origin, type_of, word_of};
 use crate::record_line::{EntryLine, FaultLine, Position};
 use crate::skip::{Section, add_lines, section_after};
 use crate::source::{ZoneText, find_source};
@@ -112,7 +112,7 @@ fn read_text(
             }
             Step::Breaks(entry, error) => {
                 let line = error.line();
-                let fault = text_fault(rest.source, rest.base, error)?;
+                let fault = text_fault(rest.source, rest.base, context, error)?;
                 found.push(EntryLine::Fault(fault))?;
                 rest = section_after(rest, entry, line)?;
                 lexer = Lexer::with_quotes(rest.text, context.types.quotes());
@@ -178,6 +178,7 @@ fn take_entry<'a>(
         Err(EntryError::Fault(fault)) => {
             let word = word_of(alloc, context, tokens)?;
             let record_type = type_of(context.types, tokens);
+            let apex = meant_apex(alloc, context, tokens)?;
             recover(alloc, context, tokens, &fault)?;
             Ok(Step::Found(EntryLine::Fault(FaultLine {
                 source: at.source,
@@ -185,6 +186,7 @@ fn take_entry<'a>(
                 word,
                 record_type,
                 may_be_start: names_start(tokens),
+                apex,
             })))
         }
         // Memory was refused while the entry was applied.
@@ -220,8 +222,14 @@ fn include<'a>(
 }
 
 /// Returns the fault of a text with so many lines before it.
-fn text_fault(source: usize, base: usize, error: LexerError) -> Result<FaultLine, AllocError>
-    ensures { IfOk result (λ fault. fault ≡ text_fault source base error) }
+fn text_fault(
+    source: usize,
+    base: usize,
+    context: &Context,
+    error: LexerError,
+) -> Result<FaultLine, AllocError>
+    ensures { IfOk result (λ fault.
+        fault ≡ text_fault source base (stated_origin context.now) error) }
 {
     Ok(FaultLine {
         source,
@@ -229,6 +237,7 @@ fn text_fault(source: usize, base: usize, error: LexerError) -> Result<FaultLine
         word: None,
         record_type: None,
         may_be_start: true,
+        apex: stated_origin(context)?,
     })
 }
 

@@ -67,6 +67,9 @@ pub struct FaultLine {
     pub record_type: Option<RecordType>,
     /// Whether the entry may be meant as an SOA record.
     pub may_be_start: bool,
+    /// The origin of the zone, if the entry states the type SOA, or may be meant so and cannot be read: its owner, or else the
+    /// origin that completes names there, unless that is the root.
+    pub apex: Option<Name>,
 }
 
 impl Drop for FaultLine {
@@ -77,9 +80,11 @@ impl Drop for FaultLine {
             word,
             record_type: _record_type,
             may_be_start: _may_be_start,
+            apex,
         } = self;
         drop(error);
         drop(word);
+        drop(apex);
     }
 }
 

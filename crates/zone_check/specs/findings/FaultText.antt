@@ -238,7 +238,7 @@ own_sentences All (file.Entry line entry.InvalidDirective) = Some (record {
 })
 own_sentences All (file.IncludeNotFound line) = Some (record {
   reason = codes "a file to include that cannot be read";
-  hint = codes "write the path of a file in the folder of the zone file or below it";
+  hint = codes "write the path of a file in the folder of the zone file or below it, or pass --include-anywhere";
 })
 own_sentences types error = None
 

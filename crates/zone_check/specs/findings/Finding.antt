@@ -2,7 +2,7 @@
 use Rattle.std.specs.Prelude.{ℕ, List, [], ◌∷◌, ◌++◌, codes, Option, Some, None, option_copied}
 use Rattle.std.specs.Fmt.{decimal}
 use Rattle.zone_lines.specs.Line.{line_numbered}
-use Rattle.zone_check.specs.findings.Shown.{shown}
+use Rattle.zone_check.specs.findings.Shown.{front_shown, shown}
 use Rattle.zone_check.specs.declared.findings.format.ReportFormat.{ReportFormat}
 use Rattle.zone_check.specs.declared.findings.format.ReportFormat.TheVariants.{Text, Json}
 use Rattle.zone_check.specs.declared.findings.finding.Advice.{Advice}
@@ -50,10 +50,15 @@ abbrev pub number_part : Option ℕ → List ℕ
 number_part (Some line) = decimal line
 number_part None = codes "null"
 
--- the word at fault after a colon and in backquotes, if it is known
-abbrev pub word_part : ReportFormat → Option (List ℕ) → List ℕ
-word_part format (Some word) = codes ": `" ++ shown format word ++ codes "`"
-word_part format None = []
+-- a word that is shown: of one at fault, at most 60 characters
+abbrev pub word_shown : ReportFormat → Severity → List ℕ → List ℕ
+word_shown format severity.Fault word = front_shown format word
+word_shown format severity.Warning word = shown format word
+
+-- the word after a colon and in backquotes, if one is known
+abbrev pub word_part : ReportFormat → Severity → Option (List ℕ) → List ℕ
+word_part format how (Some word) = codes ": `" ++ word_shown format how word ++ codes "`"
+word_part format how None = []
 
 -- a sentence on a line of its own, after four blanks; an empty one has no line
 abbrev pub indented : List ℕ → List ℕ
@@ -75,14 +80,14 @@ line_text lines (Some number) = elim (line_numbered lines number) [ Some line �
 abbrev pub text_finding : List ℕ → List ℕ → Said → List ℕ
 text_finding file line s =
     shown Text file ++ line_part s.line ++ codes ": " ++ severity_name s.severity ++ codes ": " ++ s.advice.reason
-    ++ word_part Text s.word ++ codes "\n" ++ line_shown line ++ indented s.advice.hint
+    ++ word_part Text s.severity s.word ++ codes "\n" ++ line_shown line ++ indented s.advice.hint
 
 -- What is said of a file, for programs: an object with the file, the line, the severity, what is wrong with the word at fault,
 -- and what to write instead (RFC 8259).
 abbrev pub json_finding : List ℕ → Said → List ℕ
 json_finding file s =
     codes "{\"file\":\"" ++ shown Json file ++ codes "\",\"line\":" ++ number_part s.line ++ codes ",\"kind\":\""
-    ++ severity_name s.severity ++ codes "\",\"message\":\"" ++ shown Json s.advice.reason ++ word_part Json s.word
+    ++ severity_name s.severity ++ codes "\",\"message\":\"" ++ shown Json s.advice.reason ++ word_part Json s.severity s.word
     ++ codes "\",\"hint\":\"" ++ shown Json s.advice.hint ++ codes "\"}\n"
 
 -- what is said of a file with these lines, in a format

@@ -1,5 +1,5 @@
 -- The characters of a file, as a report shows them.
-use Rattle.std.specs.Prelude.{◌==◌, ◌&&◌, ◌||◌, ◌/◌, ◌%◌, ◌+◌, nat_lt, not, if◌then◌else◌, ℕ, Bool, List, [], ◌∷◌, ◌++◌, flat_map, codes}
+use Rattle.std.specs.Prelude.{◌==◌, ◌&&◌, ◌||◌, ◌/◌, ◌%◌, ◌+◌, nat_lt, not, if◌then◌else◌, ℕ, Bool, length, List, [], ◌∷◌, ◌++◌, take, flat_map, codes}
 use Rattle.std.specs.Char.{encode_utf8}
 use Rattle.std.specs.Str.{chars}
 use Rattle.zone_check.specs.declared.findings.format.ReportFormat.{ReportFormat}
@@ -35,3 +35,9 @@ shown_char Json c =
 -- a text of a file
 abbrev pub shown : ReportFormat → List ℕ → List ℕ
 shown format text = flat_map (shown_char format) (chars text)
+
+-- the first 60 characters of a text of a file, and three dots if there are more
+abbrev pub front_shown : ReportFormat → List ℕ → List ℕ
+front_shown format text =
+    if nat_lt 60 (length (chars text)) then flat_map (shown_char format) (take 60 (chars text)) ++ codes "..."
+    else shown format text

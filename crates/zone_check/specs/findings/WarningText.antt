@@ -14,6 +14,10 @@ set_sentences about.NoOrigin = Some (record {
   reason = codes "no $ORIGIN, and no origin given: the root completed a name without a dot at its end";
   hint = codes "write $ORIGIN and the zone's origin above it, pass --origin, or write a dot at the end of each name";
 })
+set_sentences about.NoServer = Some (record {
+  reason = codes "no NS record at the zone's origin";
+  hint = codes "write @ NS ns and an address record of ns";
+})
 set_sentences about.AliasBesideData = Some (record {
   reason = codes "an alias (CNAME) beside other records of its owner";
   hint =
@@ -39,6 +43,10 @@ set_sentences other = None
 
 -- the sentences of a warning about a server, a wildcard or a delegation
 abbrev pub server_sentences : WarningKind → Option Sentences
+server_sentences about.AddressName = Some (record {
+  reason = codes "an address where a name belongs";
+  hint = codes "write the name of the host, and its address in an A record";
+})
 server_sentences about.NoAddress = Some (record {
   reason = codes "a server in this zone that has no A or AAAA record";
   hint = codes "write an address record of the server's name, which must not be an alias, or a dot after a name outside the zone";
@@ -71,6 +79,11 @@ server_sentences other = None
 
 -- the sentences of a warning about the content of a record; the last kind is a name that lacks its dot
 abbrev pub text_sentences : WarningKind → Sentences
+text_sentences about.WrongDigest = record {
+  reason = codes "a digest of another length than its type has";
+  hint =
+      codes "write all digits of the digest, or the number of its type: SHA-1 has 20 bytes, SHA-256 32, SHA-384 48, SHA-512 64";
+}
 text_sentences about.ExpiredSignature = record {
   reason = codes "a signature that has expired";
   hint = codes "sign the zone again";

@@ -167,7 +167,7 @@ fn own_text(types: Types, error: &ZoneFileError) -> Option<Advice>
         }),
         (Types::All, ZoneFileError::IncludeNotFound(_)) => Some(Advice {
             reason: "a file to include that cannot be read",
-            hint: "write the path of a file in the folder of the zone file or below it",
+            hint: "write the path of a file in the folder of the zone file or below it, or pass --include-anywhere",
         }),
         _ => None,
     }

@@ -1,10 +1,10 @@
 //! A finding, and its text: the line, what is wrong, and what to write instead.
 
 ghost use Rattle.std.specs.Prelude.{◌≡◌, ◌++◌, OnOk, map, option_copied, string_bytes};
-ghost use Rattle.zone_check.specs.findings.Finding.{finding_text, indented, json_finding, line_part, line_shown, line_text, number_part, said_by, severity_name, text_finding, word_part};
+ghost use Rattle.zone_check.specs.findings.Finding.{finding_text, indented, json_finding, line_part, line_shown, line_text, number_part, said_by, severity_name, text_finding, word_part, word_shown};
 
 use crate::findings::format::ReportFormat;
-use crate::findings::shown::push_shown;
+use crate::findings::shown::{push_front, push_shown};
 use std::alloc::{AllocError, Global};
 use zone_lines::line_numbered;
 
@@ -46,7 +46,7 @@ pub struct Finding<'a> {
     /// The line, from 1, if there is one.
     pub line: Option<usize>,
     pub severity: Severity,
-    /// The word at fault, if it is known.
+    /// The word at fault, or what a warning shows, if it is known.
     pub word: Option<&'a str>,
     pub advice: Advice,
 }
@@ -88,7 +88,7 @@ impl Finding<'_> {
         report.push_str(self.severity.name())?;
         report.push_str(": ")?;
         report.push_str(self.advice.reason)?;
-        push_word(alloc, ReportFormat::Text, report, self.word)?;
+        push_word(alloc, ReportFormat::Text, report, self.severity, self.word)?;
         report.push_str("\n")?;
         push_line_text(alloc, report, line)?;
         push_indented(report, self.advice.hint)
@@ -107,7 +107,7 @@ impl Finding<'_> {
         report.push_str(self.severity.name())?;
         report.push_str("\",\"message\":\"")?;
         push_shown(alloc, ReportFormat::Json, report, self.advice.reason)?;
-        push_word(alloc, ReportFormat::Json, report, self.word)?;
+        push_word(alloc, ReportFormat::Json, report, self.severity, self.word)?;
         report.push_str("\",\"hint\":\"")?;
         push_shown(alloc, ReportFormat::Json, report, self.advice.hint)?;
         report.push_str("\"}\n")
@@ -138,23 +138,41 @@ fn push_number(alloc: Global, report: &mut String, line: Option<usize>) -> Resul
     }
 }
 
-/// Appends the word at fault, if it is known.
+/// Appends the word after a colon and in backquotes, if one is known.
 fn push_word(
     alloc: Global,
     format: ReportFormat,
     report: &mut String,
+    severity: Severity,
     word: Option<&str>,
 ) -> Result<(), AllocError>
     ensures { OnOk result (string_bytes report.new ≡ string_bytes report.old
-        ++ word_part format (option_copied word.entry)) }
+        ++ word_part format severity (option_copied word.entry)) }
 {
     match word {
         Some(word) => {
             report.push_str(": `")?;
-            push_shown(alloc, format, report, word)?;
+            push_shown_word(alloc, format, report, severity, word)?;
             report.push_str("`")
         }
         None => Ok(()),
+    }
+}
+
+/// Appends a word. Of one at fault there are at most 60 characters.
+fn push_shown_word(
+    alloc: Global,
+    format: ReportFormat,
+    report: &mut String,
+    severity: Severity,
+    word: &str,
+) -> Result<(), AllocError>
+    ensures { OnOk result (string_bytes report.new ≡ string_bytes report.old
+        ++ word_shown format severity word.now) }
+{
+    match severity {
+        Severity::Fault => push_front(alloc, format, report, word),
+        Severity::Warning => push_shown(alloc, format, report, word),
     }
 }
 

@@ -1,11 +1,14 @@
 //! The characters of a file, as a report shows them.
 
-ghost use Rattle.std.specs.Prelude.{◌≡◌, ◌++◌, ◌<◌, IfOk, OnOk, string_bytes};
+ghost use Rattle.std.specs.Prelude.{◌≡◌, ◌++◌, ◌<◌, ◌≤◌, IfOk, OnOk, flat_map, length, string_bytes, take};
 ghost use Rattle.std.specs.Str.{chars};
-ghost use Rattle.zone_check.specs.findings.Shown.{hex_digit, hex_text, is_unsafe, shown, shown_char};
+ghost use Rattle.zone_check.specs.findings.Shown.{front_shown, hex_digit, hex_text, is_unsafe, shown, shown_char};
 
 use crate::findings::format::ReportFormat;
 use std::alloc::{AllocError, Global};
+
+/// How many characters of a word at fault are shown.
+const MAX_SHOWN: usize = 60;
 
 /// Appends a text of a file. The characters on which a terminal would act are escaped: as `\u{001b}`, or in JSON as `\u001b`.
 pub fn push_shown(
@@ -18,7 +21,49 @@ pub fn push_shown(
         ≡ string_bytes report.old ++ shown format text.now) }
 {
     let characters = characters_of(alloc, text)?;
-    for c in &characters {
+    push_characters(format, report, characters.as_slice())
+}
+
+/// Appends the first 60 characters of a text of a file, in the same form, and three dots if there are more.
+pub(crate) fn push_front(
+    alloc: Global,
+    format: ReportFormat,
+    report: &mut String,
+    text: &str,
+) -> Result<(), AllocError>
+    ensures { OnOk result (string_bytes report.new
+        ≡ string_bytes report.old ++ front_shown format text.now) }
+{
+    let characters = characters_of(alloc, text)?;
+    if characters.len() <= MAX_SHOWN {
+        return push_characters(format, report, characters.as_slice());
+    }
+    let front = front_of(characters.as_slice(), MAX_SHOWN);
+    push_characters(format, report, front)?;
+    report.push_str("...")
+}
+
+/// Returns the first characters of some, so many.
+fn front_of(characters: &[char], count: usize) -> &[char]
+    requires { count ≤ length characters.now }
+    ensures { result.now ≡ take count characters.now }
+{
+    match characters.split_at_checked(count) {
+        Some((front, _)) => front,
+        None => characters,
+    }
+}
+
+/// Appends characters of a file.
+fn push_characters(
+    format: ReportFormat,
+    report: &mut String,
+    characters: &[char],
+) -> Result<(), AllocError>
+    ensures { OnOk result (string_bytes report.new
+        ≡ string_bytes report.old ++ flat_map (shown_char format) characters.now) }
+{
+    for c in characters {
         push_character(format, report, *c)?;
     }
     Ok(())

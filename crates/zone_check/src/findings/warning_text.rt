@@ -33,6 +33,10 @@ fn set_advice(kind: WarningKind) -> Option<Advice>
             reason: "no $ORIGIN, and no origin given: the root completed a name without a dot at its end",
             hint: "write $ORIGIN and the zone's origin above it, pass --origin, or write a dot at the end of each name",
         }),
+        WarningKind::NoServer => Some(Advice {
+            reason: "no NS record at the zone's origin",
+            hint: "write @ NS ns and an address record of ns",
+        }),
         WarningKind::AliasBesideData => Some(Advice {
             reason: "an alias (CNAME) beside other records of its owner",
             hint: "remove the alias or the other records, and at the origin always the alias: many servers answer with the alias alone",
@@ -57,11 +61,15 @@ fn set_advice(kind: WarningKind) -> Option<Advice>
     }
 }
 
-/// Returns what a warning about a server, a wildcard or a delegation says.
+/// Returns what a warning about an address or a server, a wildcard or a delegation says.
 fn server_advice(kind: WarningKind) -> Option<Advice>
     ensures { option_map sentences result ≡ server_sentences kind }
 {
     match kind {
+        WarningKind::AddressName => Some(Advice {
+            reason: "an address where a name belongs",
+            hint: "write the name of the host, and its address in an A record",
+        }),
         WarningKind::NoAddress => Some(Advice {
             reason: "a server in this zone that has no A or AAAA record",
             hint: "write an address record of the server's name, which must not be an alias, or a dot after a name outside the zone",
@@ -99,6 +107,10 @@ fn text_advice(kind: WarningKind) -> Advice
     ensures { sentences result ≡ text_sentences kind }
 {
     match kind {
+        WarningKind::WrongDigest => Advice {
+            reason: "a digest of another length than its type has",
+            hint: "write all digits of the digest, or the number of its type: SHA-1 has 20 bytes, SHA-256 32, SHA-384 48, SHA-512 64",
+        },
         WarningKind::ExpiredSignature => Advice {
             reason: "a signature that has expired",
             hint: "sign the zone again",

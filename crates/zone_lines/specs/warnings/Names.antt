@@ -1,6 +1,7 @@
--- The names of records, and those without their last dot.
-use Rattle.std.specs.Prelude.{◌==◌, Bool, false, length, List, [], ◌∷◌, find, is_some, if◌then◌else◌, Option, Some, None}
-use Rattle.std.specs.List.{list_any}
+-- The names of records, those without their last dot, and those that are addresses.
+use Rattle.std.specs.Prelude.{◌==◌, ◌&&◌, ◌||◌, ◌-◌, nat_lt, not, ℕ, Bool, false, length, List, [], ◌∷◌, take, find, is_some, if◌then◌else◌, Option, Some, None}
+use Rattle.std.specs.List.{list_all, list_any}
+use Rattle.dns_wire.specs.codes.Decimal.{decimal_up_to}
 use Rattle.dns_names.specs.Build.{append_name}
 use Rattle.dns_names.specs.Compare.{at_or_below}
 use Rattle.dns_names.specs.Labels.{num_labels}
@@ -48,3 +49,23 @@ name_below name r = find (lies_below name) (r.owner ∷ names_of r.rdata)
 abbrev pub name_lies_below : Option DomainName → RecordLine → Bool
 name_lies_below None r = false
 name_lies_below (Some name) r = is_some (name_below name r)
+
+-- ---- addresses in the places of names
+
+-- whether a label is a number up to 255
+abbrev pub is_octet : List ℕ → Bool
+is_octet label = is_some (decimal_up_to 255 label)
+
+-- whether the first four labels of a name are those of an IPv4 address
+abbrev pub begins_with_address : List (List ℕ) → Bool
+begins_with_address labels = not (nat_lt (length labels) 4) && list_all is_octet (take 4 labels)
+
+-- whether a name is such an address, as `192.0.2.1.`, or one that an origin completed, as `192.0.2.1`
+abbrev pub is_address_name : DomainName → DomainName → Bool
+is_address_name origin name =
+    let others = length name.labels - 4 in
+    begins_with_address name.labels && (others == 0 || others == length origin.labels && at_or_below origin.labels name.labels)
+
+-- whether some name in data is an address
+abbrev pub has_address_name : DomainName → RData → Bool
+has_address_name origin rdata = list_any (is_address_name origin) (names_of rdata)

@@ -2,7 +2,7 @@
 use Rattle.std.specs.Prelude.{◌==◌, ◌&&◌, ◌+◌, nat_lt, not, Bool, true, false, ℕ, suc, length, List, [], ◌∷◌, ◌++◌, map, is_some, Option, Some, None}
 use Rattle.std.specs.List.{filter}
 use Rattle.std.specs.Option.{option_map_or}
-use Rattle.dns_names.specs.Compare.{at_or_below}
+use Rattle.dns_names.specs.Compare.{at_or_below, same_labels}
 use Rattle.dns_names.specs.Labels.{begins_with_star}
 use Rattle.dns_names.specs.Name.{DomainName}
 use Rattle.dns_data.specs.declared.rdata.RData.{RData}
@@ -13,10 +13,11 @@ use Rattle.zone_lines.specs.Line.{line_at}
 use Rattle.zone_lines.specs.declared.record_line.Position.{Position}
 use Rattle.zone_lines.specs.declared.record_line.RecordLine.{RecordLine}
 use Rattle.zone_lines.specs.warnings.Cuts.{is_below_cut, is_glue, is_server_delegated, lacks_cut, lacks_glue, refers}
-use Rattle.zone_lines.specs.warnings.Names.{doubled_origin, name_lies_below, server_of}
+use Rattle.zone_lines.specs.warnings.Digest.{wrong_digest}
+use Rattle.zone_lines.specs.warnings.Names.{doubled_origin, has_address_name, name_lies_below, server_of}
 use Rattle.zone_lines.specs.warnings.Places.{first_place, is_alias}
 use Rattle.zone_lines.specs.warnings.Signature.{has_expired, is_signature, is_signer}
-use Rattle.zone_lines.specs.warnings.Survey.{Facts, lacks_origin}
+use Rattle.zone_lines.specs.warnings.Survey.{Facts, lacks_origin, lacks_server}
 use Rattle.zone_lines.specs.warnings.Text.{cuts_word, ends_quoted, is_dmarc, is_spf}
 use Rattle.zone_lines.specs.declared.warnings.kind.Warning.{Warning}
 use Rattle.zone_lines.specs.declared.warnings.kind.WarningKind.{WarningKind}
@@ -84,26 +85,30 @@ leaves_string f at = option_map_or ends_quoted (line_at f.texts at) false
 -- ---- warnings
 
 -- Whether a kind of warning applies to the record at a place among the entries of a zone. A server with a name that ends in the
--- origin twice is not said to lack an address, nor is one at or below a delegation, whose address is in another zone. The TTL of a
+-- origin twice, or is an address, is not said to lack an address, nor is one at or below a delegation, whose address is in another zone. The TTL of a
 -- signature is that of the set that it covers (RFC 4034 section 3).
 abbrev pub applies : WarningKind → Facts → List EntryLine → ℕ → RecordLine → Bool
 applies about.RootZone f entries place r = is_start r && is_root f && not f.is_given
 applies about.NoOrigin f entries place r = is_start r && not (is_root f) && lacks_origin f entries
+applies about.NoServer f entries place r =
+    is_start r && same_labels f.origin.labels r.owner.labels && lacks_server f entries
 applies about.AliasBesideData f entries place r = is_alias r.rdata && is_some (first_place property.NotBesideAlias entries r.owner)
 applies about.SecondRecord f entries place r = is_single r.rdata && r.earlier.exists
 applies about.DuplicateRecord f entries place r = is_dropped r
 applies about.OtherTtl f entries place r =
     r.earlier.has_other_ttl && not r.earlier.is_no_more && not (is_signature r.rdata)
 applies about.HighTtl f entries place r = nat_lt 2147483647 r.ttl
+applies about.AddressName f entries place r = has_address_name f.origin r.rdata
 applies about.NoAddress f entries place r =
-    lacks_address f entries r.rdata && not (name_lies_below (doubled_origin f.origin) r)
+    lacks_address f entries r.rdata && not (has_address_name f.origin r.rdata) && not (name_lies_below (doubled_origin f.origin) r)
     && not (is_server_delegated f entries (server_of r.rdata))
 applies about.Wildcard f entries place r = f.is_plain && begins_with_star r.owner.labels && is_first r
 applies about.Delegation f entries place r = f.is_plain && refers f r && is_first r
 applies about.WildcardCut f entries place r = not f.is_plain && refers f r && begins_with_star r.owner.labels && is_first r
-applies about.NoGlue f entries place r = lacks_glue f entries r
+applies about.NoGlue f entries place r = lacks_glue f entries r && not (has_address_name f.origin r.rdata)
 applies about.Occluded f entries place r = is_below_cut f entries r.owner && not (is_glue entries r)
 applies about.SignerWithoutCut f entries place r = is_signer r.rdata && lacks_cut f entries r.owner
+applies about.WrongDigest f entries place r = is_some (wrong_digest r.rdata)
 applies about.ExpiredSignature f entries place r = option_map_or (λ now. has_expired now r.rdata) f.now false
 applies about.SecondSpf f entries place r =
     is_spf r.rdata && not (is_dropped r) && comes_after (first_place property.Spf entries r.owner) place
@@ -116,9 +121,9 @@ applies about.MissingDot f entries place r = name_lies_below (doubled_origin f.o
 -- the kinds, in the order of a record's warnings
 abbrev pub kinds : List WarningKind
 kinds =
-    about.RootZone ∷ about.NoOrigin ∷ about.AliasBesideData ∷ about.SecondRecord ∷ about.DuplicateRecord ∷ about.OtherTtl
-    ∷ about.HighTtl ∷ about.NoAddress ∷ about.Wildcard ∷ about.Delegation ∷ about.WildcardCut ∷ about.NoGlue ∷ about.Occluded
-    ∷ about.SignerWithoutCut ∷ about.ExpiredSignature ∷ about.SecondSpf ∷ about.SecondDmarc ∷ about.CutText ∷ about.OpenString
+    about.RootZone ∷ about.NoOrigin ∷ about.NoServer ∷ about.AliasBesideData ∷ about.SecondRecord ∷ about.DuplicateRecord
+    ∷ about.OtherTtl ∷ about.HighTtl ∷ about.AddressName ∷ about.NoAddress ∷ about.Wildcard ∷ about.Delegation ∷ about.WildcardCut
+    ∷ about.NoGlue ∷ about.Occluded ∷ about.SignerWithoutCut ∷ about.WrongDigest ∷ about.ExpiredSignature ∷ about.SecondSpf ∷ about.SecondDmarc ∷ about.CutText ∷ about.OpenString
     ∷ about.MissingDot ∷ []
 
 -- whether a kind of warning is about the origin of the zone: that the root is, or completed a name
@@ -126,6 +131,11 @@ abbrev pub is_about_origin : WarningKind → Bool
 is_about_origin about.RootZone = true
 is_about_origin about.NoOrigin = true
 is_about_origin other = false
+
+-- whether a kind of warning is about the name servers of the zone: that it has none
+abbrev pub is_about_servers : WarningKind → Bool
+is_about_servers about.NoServer = true
+is_about_servers other = false
 
 -- the warning of a kind for the record at a place
 abbrev pub warning_of : ℕ → RecordLine → WarningKind → Warning

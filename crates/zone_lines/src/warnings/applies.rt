@@ -7,8 +7,9 @@ ghost use Rattle.zone_lines.specs.warnings.Cuts.{AreCuts};
 ghost use Rattle.zone_lines.specs.warnings.Warning.{applies, comes_after, is_cut, is_dropped, is_first, is_single, is_start, lacks_address, leaves_string};
 
 use crate::warnings::cuts::{Cuts, is_glue, lacks_cut, lacks_glue, refers};
+use crate::warnings::digest::wrong_digest;
 use crate::warnings::kind::WarningKind;
-use crate::warnings::names::{name_lies_below, server_of};
+use crate::warnings::names::{has_address_name, name_lies_below, server_of};
 use crate::warnings::places::{Trait, has_trait, is_alias};
 use crate::warnings::signature::{has_expired, is_signature, is_signer};
 use crate::warnings::survey::{Survey, ZoneFacts};
@@ -39,6 +40,11 @@ pub(crate) fn applies(
         WarningKind::NoOrigin => {
             is_start(record_line) && !facts.origin.is_root() && survey.lacks_origin
         }
+        WarningKind::NoServer => {
+            is_start(record_line)
+                && facts.origin.eq_ignore_root(&record_line.owner)
+                && survey.lacks_server
+        }
         WarningKind::AliasBesideData => {
             is_alias(&record_line.rdata) && survey.others.get(&record_line.owner).is_some()
         }
@@ -50,8 +56,10 @@ pub(crate) fn applies(
                 && !is_signature(&record_line.rdata)
         }
         WarningKind::HighTtl => record_line.ttl > MAX_TTL,
+        WarningKind::AddressName => has_address_name(facts.origin, &record_line.rdata),
         WarningKind::NoAddress => {
             lacks_address(facts, survey, &record_line.rdata)
+                && !has_address_name(facts.origin, &record_line.rdata)
                 && !name_lies_below(survey.doubled.as_ref(), record_line)
                 && !cuts.is_above_server
         }
@@ -67,11 +75,15 @@ pub(crate) fn applies(
                 && record_line.owner.is_wildcard()
                 && is_first(record_line)
         }
-        WarningKind::NoGlue => lacks_glue(facts, survey, record_line),
+        WarningKind::NoGlue => {
+            lacks_glue(facts, survey, record_line)
+                && !has_address_name(facts.origin, &record_line.rdata)
+        }
         WarningKind::Occluded => cuts.is_above_owner && !is_glue(survey, record_line),
         WarningKind::SignerWithoutCut => {
             is_signer(&record_line.rdata) && lacks_cut(facts, survey, &record_line.owner)
         }
+        WarningKind::WrongDigest => wrong_digest(&record_line.rdata).is_some(),
         WarningKind::ExpiredSignature => match facts.now {
             Some(now) => has_expired(now, &record_line.rdata),
             None => false,

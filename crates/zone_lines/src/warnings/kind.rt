@@ -12,6 +12,9 @@ pub enum WarningKind {
     /// An SOA record of a zone without a `$ORIGIN` and without an origin that was given, with a name without a dot in the data
     /// of a record: the root completed it (RFC 1035 section 5.1).
     NoOrigin,
+    /// An SOA record of a zone that has no NS record at its origin (RFC 2181 section 6.1), and no entry with a
+    /// fault that may be meant as one. A zone that is served plainly needs none.
+    NoServer,
     /// A CNAME record, of whose owner there is other data (RFC 1034 section 3.6.2, RFC 2181 section 10.1) than that of a signed
     /// zone: RRSIG, NSEC and KEY (RFC 4035 section 2.5).
     AliasBesideData,
@@ -24,9 +27,12 @@ pub enum WarningKind {
     OtherTtl,
     /// A record whose TTL has the highest of its 32 bits set, so that a receiver takes it as 0 (RFC 2181 section 8).
     HighTtl,
+    /// A record with an address in the place of a name (RFC 1035 section 3.3): four numbers up to 255, alone or completed by the
+    /// origin.
+    AddressName,
     /// An NS or MX record whose target is in the zone, which has no address for it (RFC 2181 section 10.3). A record with a
-    /// name that ends in the origin twice has this warning only once that name is corrected, and one whose target is at or
-    /// below a delegation never, unless the zone is served plainly.
+    /// name that ends in the origin twice, or with an address in its place, has this warning only once that name is corrected, and
+    /// one whose target is at or below a delegation never, unless the zone is served plainly.
     NoAddress,
     /// A record of a wildcard in a zone that is served plainly, which is not expanded (RFC 1034 section 4.3.3). It is the
     /// first of its type.
@@ -43,6 +49,9 @@ pub enum WarningKind {
     Occluded,
     /// A DS record whose owner is no delegation (RFC 4035 section 2.4).
     SignerWithoutCut,
+    /// A record with a digest whose length is not that of its kind, so that nothing has it (RFC 4034 section 5.1.4, RFC 4255 section
+    /// 3.1.2, RFC 6698 section 2.1.3, RFC 8976 section 2.2.3).
+    WrongDigest,
     /// An RRSIG record that has expired (RFC 4034 section 3.1.5).
     ExpiredSignature,
     /// A TXT record beginning `v=spf1` after another of its owner, with which neither counts (RFC 7208 section 4.5).
@@ -59,17 +68,19 @@ pub enum WarningKind {
 }
 
 impl WarningKind {
-    ghost use Rattle.zone_lines.specs.warnings.Warning.{is_about_origin};
+    ghost use Rattle.zone_lines.specs.warnings.Warning.{is_about_origin, is_about_servers};
 
     /// The kinds, in the order of a record's warnings.
-    pub const ALL: [WarningKind; 20] = [
+    pub const ALL: [WarningKind; 23] = [
         WarningKind::RootZone,
         WarningKind::NoOrigin,
+        WarningKind::NoServer,
         WarningKind::AliasBesideData,
         WarningKind::SecondRecord,
         WarningKind::DuplicateRecord,
         WarningKind::OtherTtl,
         WarningKind::HighTtl,
+        WarningKind::AddressName,
         WarningKind::NoAddress,
         WarningKind::Wildcard,
         WarningKind::Delegation,
@@ -77,6 +88,7 @@ impl WarningKind {
         WarningKind::NoGlue,
         WarningKind::Occluded,
         WarningKind::SignerWithoutCut,
+        WarningKind::WrongDigest,
         WarningKind::ExpiredSignature,
         WarningKind::SecondSpf,
         WarningKind::SecondDmarc,
@@ -90,6 +102,13 @@ impl WarningKind {
         ensures { result ≡ is_about_origin self }
     {
         matches!(self, WarningKind::RootZone | WarningKind::NoOrigin)
+    }
+
+    /// Returns `true` if the warning is about the name servers of the zone: that it has none.
+    pub fn is_about_servers(self) -> bool
+        ensures { result ≡ is_about_servers self }
+    {
+        matches!(self, WarningKind::NoServer)
     }
 }
 

@@ -1,11 +1,12 @@
-//! The names of records, and those without their last dot.
+//! The names of records, those without their last dot, and those that are addresses.
 
 ghost use Rattle.std.specs.Prelude.{◌≡◌, ◌==◌, ◌∷◌, [], find, length, IfOk, IsOk, None, option_copied};
-ghost use Rattle.zone_lines.specs.warnings.Names.{doubled_origin, has_top_name, lies_below, name_below, name_lies_below, names_of, server_of};
+ghost use Rattle.zone_lines.specs.warnings.Names.{begins_with_address, doubled_origin, has_address_name, has_top_name, is_address_name, is_octet, lies_below, name_below, name_lies_below, names_of, server_of};
 
 use crate::RecordLine;
 use dns_data::RData;
 use dns_names::{Name, ParseError};
+use dns_wire::codes::parse_decimal;
 use std::alloc::AllocError;
 
 /// Returns the origin with its labels once more, if that is a name and has a label. If not, no memory is taken.
@@ -101,4 +102,43 @@ fn is_top(name: &Name) -> bool
     ensures { result ≡ (length name.now.labels == 1) }
 {
     name.iter().len() == 1
+}
+
+/// Returns `true` if some name in data is an address, which perhaps an origin completes.
+pub(crate) fn has_address_name(origin: &Name, rdata: &RData) -> bool
+    ensures { result ≡ has_address_name origin.now rdata.now }
+{
+    match rdata {
+        RData::CNAME(cname) => is_address_name(origin, &cname.0),
+        RData::NS(ns) => is_address_name(origin, &ns.0),
+        RData::PTR(ptr) => is_address_name(origin, &ptr.0),
+        RData::MX(mx) => is_address_name(origin, &mx.exchange),
+        RData::SRV(srv) => is_address_name(origin, &srv.target),
+        RData::SOA(soa) => is_address_name(origin, &soa.mname)
+            || is_address_name(origin, &soa.rname),
+        _ => false,
+    }
+}
+
+/// Returns `true` if a name is an address, alone or before an origin.
+fn is_address_name(origin: &Name, name: &Name) -> bool
+    ensures { result ≡ is_address_name origin.now name.now }
+{
+    let others = name.iter().len().saturating_sub(4);
+    let is_completed = others == origin.iter().len() && origin.zone_of(name);
+    begins_with_address(name) && (others == 0 || is_completed)
+}
+
+/// Returns `true` if the first four labels of a name are numbers up to 255.
+fn begins_with_address(name: &Name) -> bool
+    ensures { result ≡ begins_with_address name.now.labels }
+{
+    name.iter().len() >= 4 && name.iter().take(4).all(|label| is_octet(label))
+}
+
+/// Returns `true` if a label is a number up to 255.
+fn is_octet(label: &[u8]) -> bool
+    ensures { result ≡ is_octet label.now }
+{
+    parse_decimal(label, 255).is_some()
 }

@@ -3,7 +3,7 @@ use Rattle.dns_text.specs.Lexer.{start_with}
 use Rattle.dns_text.specs.declared.quotes.Quotes.{Quotes}
 use Rattle.dns_zone_file.specs.internal.Context.{restored}
 use Rattle.dns_zone_file.specs.declared.context.SavedContext.{SavedContext}
-use Rattle.zone_lines.specs.Reading.{text_fault}
+use Rattle.zone_lines.specs.Reading.{stated_origin, text_fault}
 use Rattle.zone_lines.proofs.ReadingLaws.{applied, breaks_less, breaks_some, ends, found_all, found_deep, found_one, goes_past, read_included}
 use Rattle.zone_lines.proofs.reading.+read_text.Goals as goal
 
@@ -63,7 +63,8 @@ entries-preserved t c =
       goes_past c.entries.invariant.1 step.0 c.take_step.new.context c.in-Breaks.entry c.line-line.result c.in_ok-rest-in-Breaks.rest.base
           c.in_ok-rest-in-Breaks.rest.text.now c.with_quotes-lexer-in-Breaks.result c.in_ok-fault-in-Breaks.fault c.push-in-Breaks.new.self.items
           step.2 step.1 c.line-line.ensures c.in_ok-rest-in-Breaks.ensures.ok (c.in_ok-rest-in-Breaks.ensures.shorter (breaks_some c.entries.invariant.1 step.0))
-          (c.in_ok-fault-in-Breaks.ensures ∙ ap (λ (n : ℕ). text_fault n c.entries.rest.base c.in-Breaks.error) c.entries.invariant.0)
+          (c.in_ok-fault-in-Breaks.ensures ∙ ap (λ (n : ℕ). text_fault n c.entries.rest.base (stated_origin c.take_step.new.context) c.in-Breaks.error)
+          c.entries.invariant.0)
           c.in_ok-push-in-Breaks.ensures.items
           (c.with_quotes-lexer-in-Breaks.ensures ∙ ap (λ (q : Quotes). start_with q c.in_ok-rest-in-Breaks.rest.text.now) c.quotes-in-Breaks.ensures),
     )

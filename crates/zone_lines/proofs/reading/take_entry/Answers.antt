@@ -44,4 +44,4 @@ returns-in_ok-recover-in-Err-Fault c =
     let refused = rw c.in-Err-Fault.field-0-is at c.in-Err-Fault.ensures.refused in
     faulted (includes_view c.args.includes.now) c.args.depth c.args.is_closed c.args.context.now c.apply.new.context c.recover.new.context c.args.at
     (map lexeme c.args.tokens.now) c.in-Err-Fault.fault _ refused.0 refused.1
-    refl refl c.in_ok-word-in-Err-Fault.ensures c.type_of-record_type.ensures c.names_start.ensures c.in_ok-recover-in-Err-Fault.ensures
+    refl refl c.in_ok-word-in-Err-Fault.ensures c.type_of-record_type.ensures c.names_start.ensures c.in_ok-apex-in-Err-Fault.ensures c.in_ok-recover-in-Err-Fault.ensures
