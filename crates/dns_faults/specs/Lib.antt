@@ -1,7 +1,7 @@
 pub mod Coded
+pub mod Decided
 pub mod Delivery
 pub mod Edited
-pub mod Step
 pub mod Truncated
 pub mod rules
 pub mod table

@@ -1,11 +1,10 @@
 //! Faults on demand for a test name server: what is sent, and what happens to the server.
 //!
-//! A table of rules decides what goes wrong with the reply to a request. The request is decoded once, the rule that decides is
-//! found and counted, the server replies, unless the rule says otherwise, and the reply is edited.
+//! A table of rules decides what goes wrong with the reply to a request. The rule that decides is found ([`decision_for`]), the server
+//! replies, unless the rule says otherwise, the reply is edited, and the rule is counted.
 //!
-//! - `server`: what the replies come from; `fixed_server`: a server in memory; `step`: one request;
-//! - `delivery`: how a reply is sent; `edited`: edits of a reply; `coded`: replies with a response code alone; `truncated`:
-//!   truncated replies;
+//! - `decided`: the requests for which a rule decides; `coded`: replies with a response code alone; `truncated`: truncated replies;
+//!   `edited`: edits of the bytes of a reply; `delivery`: how a reply is sent;
 //! - `laws`: theorems about the definitions of this crate.
 //!
 //! Further modules, each with a page of its own:
@@ -14,20 +13,16 @@
 #![tactic(auto)]
 
 mod coded;
+mod decided;
 mod delivery;
 mod edited;
-mod fixed_server;
 pub mod laws;
 pub mod rules;
-mod server;
-mod step;
 pub mod table;
 mod truncated;
 
 pub use coded::coded_reply;
+pub use decided::{Decided, decision_for};
 pub use delivery::Delivery;
 pub use edited::edited_reply;
-pub use fixed_server::FixedServer;
-pub use server::FaultServer;
-pub use step::{Outcome, respond};
 pub use truncated::truncated_reply;
