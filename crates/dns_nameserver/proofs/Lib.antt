@@ -1,2 +1,1 @@
-pub mod UndecidedLaws
-pub mod LeftLaws
+pub mod FormerLaws

@@ -24,7 +24,6 @@ abbrev pub updated : Answering → List ZoneContent → Option Message → List 
 updated answering zones None = zones
 updated answering zones (Some m) = zones_served answering may.Allowed zones m
 
--- after an update that changed records, the zones from before it are those to which the last such update was applied
-abbrev pub former_after : Bool → Former → Message → Former
-former_after true f m = record f { zones = updated f.answering f.zones f.last; last = Some m }
-former_after false f m = f
+-- After an update that changed records, the zones from before it are those to which the last such update was applied.
+abbrev pub former_after : Former → Message → Former
+former_after f m = record f { zones = updated f.answering f.zones f.last; last = Some m }

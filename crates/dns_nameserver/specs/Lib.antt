@@ -1,3 +1,3 @@
 pub mod Former
-pub mod NameServer
+pub mod Answered
 pub mod LogEntry

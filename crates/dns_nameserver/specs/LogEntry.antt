@@ -15,7 +15,7 @@ use Rattle.dns_log.specs.declared.entry.LogTransport.{LogTransport}
 use Rattle.dns_log.specs.declared.entry.LogTransport.TheVariants as logged
 use Rattle.dns_log.specs.declared.entry.ReplyCounts.{ReplyCounts}
 use Rattle.dns_log.specs.declared.question.LogQuestion.{LogQuestion}
-use Rattle.dns_nameserver.specs.declared.name_server.Answered.{Answered}
+use Rattle.dns_nameserver.specs.declared.answered.Answered.{Answered}
 
 -- the transport, as the log names it
 abbrev pub log_transport : Transport → LogTransport

@@ -1,15 +1,14 @@
 //! The zones from before the last update that changed records.
 
-ghost use Rattle.std.specs.Prelude.{◌≡◌, None, IfOk, OnOk, OnErr};
+ghost use Rattle.std.specs.Prelude.{◌≡◌, None, IfOk, IfSome, OnOk, OnErr};
 ghost use Rattle.dns_messages.specs.Sound.{IsSound};
-ghost use Rattle.dns_server.specs.Maintaining.{IsRecordableOf};
 ghost use Rattle.dns_server.specs.declared.updates.Updates.TheVariants as may;
-ghost use Rattle.dns_authority.specs.service.Answering.{IsServiceReply, zones_served};
-ghost use Rattle.dns_nameserver.specs.Former.{former_after, has_changed};
+ghost use Rattle.dns_authority.specs.service.Answering.{IsServiceReply};
+ghost use Rattle.dns_nameserver.specs.Former.{former_after, has_changed, updated};
 
 use dns_authority::service::Answering;
 use dns_messages::Message;
-use dns_server::{Served, Server, Updates, ZoneChange};
+use dns_server::{Server, Updates, ZoneChange};
 use dns_zone::Transport;
 use std::alloc::{AllocError, Global};
 use std::marker::Model;
@@ -60,48 +59,21 @@ impl FormerZones {
         }
     }
 
-    /// Serves a request by the current zones, and follows if it changes records. An error leaves both unchanged.
-    pub fn follow(
-        &mut self,
-        alloc: Global,
-        answering: Answering,
-        current: &mut Server,
-        request: &Message,
-        transport: Transport,
-        updates: Updates,
-    ) -> Result<Served, AllocError>
-        requires { IsSound request.now }
-        ensures reply { IfOk result (λ served.
-            IsServiceReply answering updates current.old transport request.now served.reply.items) }
-        ensures current { OnOk result
-            (current.new ≡ zones_served answering updates current.old request.now) }
-        ensures change { IfOk result (λ served.
-            IsRecordableOf current.old served.change current.new) }
-        ensures former { IfOk result (λ served.
-            self.new ≡ former_after (has_changed served.change) self.old request.now) }
+    /// Follows an update that has changed records of the current zones: what came before it becomes the zones from before the last
+    /// update. An error leaves them unchanged.
+    pub fn follow(&mut self, alloc: Global, update: &Message) -> Result<(), AllocError>
+        requires { IsSound update.now }
+        ensures ok { OnOk result (self.new ≡ former_after self.old update.now) }
         ensures err { OnErr result (self.new ≡ self.old) }
-        ensures current_err { OnErr result (current.new ≡ current.old) }
     {
-        if let Some(update) = &self.missing {
-            let _served = self.answering.respond_to(
-                alloc,
-                &mut self.server,
-                update,
-                Transport::Stream,
-                Updates::Allowed,
-            )?;
-        }
-        self.missing = None;
-        let update = request.clone()?;
-        let served = answering.respond_to(alloc, current, request, transport, updates)?;
-        if has_changed(&served.change) {
-            self.missing = self.last.take();
-            self.last = Some(update);
-        }
-        Ok(served)
+        catch_up(alloc, self.answering, &mut self.server, &mut self.missing)?;
+        let update = update.clone()?;
+        self.missing = self.last.take();
+        self.last = Some(update);
+        Ok(())
     }
 
-    /// Serves a request by the zones from before the last update. No update is allowed. An error leaves them unchanged.
+    /// Serves a request by the zones from before the last update. No update is allowed: the zones stay.
     pub fn serve(
         &mut self,
         alloc: Global,
@@ -112,20 +84,9 @@ impl FormerZones {
         requires { IsSound request.now }
         ensures reply { IfOk result (λ out.
             IsServiceReply answering may.Refused self.old.zones transport request.now out.items) }
-        ensures ok { OnOk result (self.new
-            ≡ record self.old { zones = zones_served answering may.Refused self.old.zones request.now }) }
-        ensures err { OnErr result (self.new ≡ self.old) }
+        ensures same { self.new ≡ self.old }
     {
-        if let Some(update) = &self.missing {
-            let _served = self.answering.respond_to(
-                alloc,
-                &mut self.server,
-                update,
-                Transport::Stream,
-                Updates::Allowed,
-            )?;
-        }
-        self.missing = None;
+        catch_up(alloc, self.answering, &mut self.server, &mut self.missing)?;
         let served = answering.respond_to(
             alloc,
             &mut self.server,
@@ -135,6 +96,32 @@ impl FormerZones {
         )?;
         Ok(served.reply)
     }
+}
+
+/// Applies an update that is missing in zones, if there is one. An error leaves both as they are.
+fn catch_up(
+    alloc: Global,
+    answering: Answering,
+    server: &mut Server,
+    missing: &mut Option<Message>,
+) -> Result<(), AllocError>
+    requires { IfSome missing.old IsSound }
+    ensures zones { OnOk result (server.new ≡ updated answering server.old missing.old) }
+    ensures none { OnOk result (missing.new ≡ None) }
+    ensures err { OnErr result (server.new ≡ server.old) }
+    ensures still { OnErr result (missing.new ≡ missing.old) }
+{
+    if let Some(update) = missing {
+        let _served = answering.respond_to(
+            alloc,
+            server,
+            update,
+            Transport::Stream,
+            Updates::Allowed,
+        )?;
+    }
+    *missing = None;
+    Ok(())
 }
 
 /// Returns `true` for a change that deletes or adds a record.

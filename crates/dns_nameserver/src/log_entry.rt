@@ -5,7 +5,7 @@ ghost use Rattle.std.specs.Net.Text.{socket_text};
 ghost use Rattle.dns_messages.specs.Header.{peeked_metadata};
 ghost use Rattle.dns_nameserver.specs.LogEntry.{HasCode, HasQuestion, IsLogged, IsOnly, counts_of, log_transport, number_at, op_of_header, reply_bytes};
 
-use crate::name_server::Answered;
+use crate::answered::Answered;
 use dns_faults::rules::Transport;
 use dns_log::{LogEntry, LogQuestion, LogTransport, ReplyCounts};
 use dns_messages::{Message, Metadata, Query};
