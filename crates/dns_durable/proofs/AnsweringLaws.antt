@@ -151,6 +151,13 @@ answers_unstored policy zones after admitted replies (a_request {mid = mid} {a =
 pub no_front : (step : List ZoneContent → Message → List ZoneContent) (zones : List ZoneContent) (bytes : List ℕ) → TakesFront step zones bytes zones
 no_front step zones bytes = record { front = []; rest = bytes; bytes_are = refl; takes = no_frame }
 
+-- none of the updates is served where the zones are unchanged
+pub none_served : (answering : Answering) (zones after : List ZoneContent) (admitted : List Arrived) → after ≡ zones
+    → TakesFront (step_of answering) zones (stream_of (changes_in admitted)) after
+none_served answering zones after admitted same =
+    subst (λ (z : List ZoneContent). TakesFront (step_of answering) zones (stream_of (changes_in admitted)) z) (sym same)
+    (no_front (step_of answering) zones (stream_of (changes_in admitted)))
+
 front_change : (b : Bool) (policy : Policy) (zones mid after : List ZoneContent) (a : Admitted) (messages : List (List ℕ)) → IsJudged policy a
     → mid ≡ (if b then step_of policy.answering zones a.message else zones) → TakesFront (step_of policy.answering) mid (stream_of messages) after
     → TakesFront (step_of policy.answering) zones (stream_of ((if b then a.incoming.bytes.now ∷ [] else []) ++ messages)) after
@@ -166,6 +173,26 @@ pub front_one_more : (policy : Policy) (zones mid after : List ZoneContent) (a :
     → mid ≡ zones_left policy.answering true zones a → TakesFront (step_of policy.answering) mid (stream_of messages) after → TakesFront (step_of policy.answering) zones (stream_of (change_of a ++ messages)) after
 front_one_more policy zones mid after (Request a) messages judged is takes = front_change (makes_change a) policy zones mid after a messages judged is takes
 front_one_more policy zones mid after (Other bytes) messages judged is takes = subst (λ (z : List ZoneContent). TakesFront (step_of policy.answering) z (stream_of messages) after) is takes
+
+-- ---- no update
+
+takes_nothing : (step : List ZoneContent → Message → List ZoneContent) (zones after : List ZoneContent) (bytes : List ℕ) → bytes ≡ [] → Takes step zones bytes after → after ≡ zones
+takes_nothing step zones after bytes none no_frame = refl
+takes_nothing step zones after bytes none (a_frame short taken rest) = absurd (cc none)
+
+empty_front : (front rest : List ℕ) → [] ≡ front ++ rest → front ≡ []
+empty_front [] rest is = refl
+empty_front (byte ∷ front) rest is = absurd (cc is)
+
+-- the zones stay where none of the requests is an update that may be made
+module _ (policy : Policy) (zones after : List ZoneContent) (admitted : List Arrived) (none : changes_in admitted ≡ []) where
+  pub answers_stay : (stored : Bool) (replies : List (Option (List ℕ))) → AreJudged policy admitted → AnswersAll policy stored zones admitted replies after → after ≡ zones
+  answers_stay true replies judged answers =
+      takes_nothing (step_of policy.answering) zones after (stream_of (changes_in admitted)) (ap stream_of none) (answers_take policy zones after admitted replies judged answers)
+  answers_stay false replies judged answers = answers_unstored policy zones after admitted replies answers
+
+  pub front_stays : TakesFront (step_of policy.answering) zones (stream_of (changes_in admitted)) after → after ≡ zones
+  front_stays front = takes_nothing (step_of policy.answering) zones after front.front (empty_front front.front front.rest (sym (ap stream_of none) ∙ front.bytes_are)) front.takes
 
 -- ---- the reply to one request
 

@@ -2,7 +2,7 @@
 use Rattle.std.specs.Prelude.{◌≡◌, ◌≢◌, ◌≤◌, ◌⊎◌, ℕ, Bool, true, false, List, [], ◌∷◌, ◌++◌, length, map, alloc_error}
 use Rattle.std.specs.Prelude.{Result, Ok, Err}
 use Rattle.std.specs.declared.alloc.AllocError.{AllocError}
-use Rattle.dns_message_bytes.specs.frames.Frame.{frame}
+use Rattle.dns_message_bytes.specs.frames.Frame.{frame, stream_of}
 use Rattle.dns_journal.specs.declared.journal.Position.{Position}
 use Rattle.dns_journal.specs.declared.journal.State.TheVariants as states
 use Rattle.dns_journal.specs.Event.{Event}
@@ -106,13 +106,15 @@ pub record Keeps (entry : List ℕ) (outcome : Result Replies AllocError) (old n
       → Commits text updates entry outcome old new zones after d es
   pub idle : old.state ≢ states.Ready → IsLeft entry (is_acknowledged outcome) old new es × (after ≡ zones)
 
--- the replies to requests that are decoded and verified
+-- The replies to requests that are decoded and verified. Where memory is refused there are none, and some of the updates that may be made
+-- were served, without a gap from the first one on.
 abbrev pub AnswersRequests : Policy → List Arrived → List ZoneContent → List ZoneContent
     → Result Replies AllocError → Type 0
 AnswersRequests policy admitted zones after (Ok r) =
     AnswersAll policy r.is_stored zones admitted
     (map reply_bytes r.replies.items) after
-AnswersRequests policy admitted zones after (Err error) = Unit {0}
+AnswersRequests policy admitted zones after (Err error) =
+    TakesFront (step_of policy.answering) zones (stream_of (changes_in admitted)) after
 
 -- what requests that are decoded and verified ask of a storage, and what their replies are
 pub record Answers (policy : Policy) (admitted : List Arrived) (outcome : Result Replies AllocError)

@@ -9,7 +9,7 @@ use Rattle.dns_durable.specs.Reply.{AnswersAll}
 use Rattle.dns_durable.specs.Rule.{entry_of, step_of}
 use Rattle.dns_durable.specs.Storing.{Asks}
 use Rattle.dns_durable.specs.declared.incoming.Arrived.{Arrived}
-use Rattle.dns_durable.proofs.AnsweringLaws.{answers_take}
+use Rattle.dns_durable.proofs.AnsweringLaws.{answers_take, none_served}
 use Rattle.dns_durable.proofs.KeepingLaws.{keeps_answered, keeps_behind, keeps_refused}
 use Rattle.dns_durable.proofs.RuleLaws.{entry_takes, entry_takes_front}
 use Rattle.dns_durable.proofs.durable_server.respond_batch.Goals.{then-is_stored, else-is_stored}
@@ -58,15 +58,15 @@ returns-after-is_stored-clause-performs g c =
       | then-is_stored w ↦
           let new = w.suspend.new.journal in
           let given : w.as_slice-then-is_stored.result.now ≡ entry = w.as_slice-then-is_stored.ensures.value ∙ c.requires.entry in
-          let front = entry_takes_front policy.answering z after (changes_in items)
-          (subst (λ (l : List Arrived). TakesFront (step_of policy.answering) z (stream_of (changes_in l)) after) c.as_slice-2.ensures.value (c.in-Err.ensures.failed w.if-is_stored.true)) in
+          let served = subst (λ (l : List Arrived). TakesFront (step_of policy.answering) z (stream_of (changes_in l)) after) c.as_slice-2.ensures.value (c.in-Err.ensures.failed w.if-is_stored.true) in
+          let front = entry_takes_front policy.answering z after (changes_in items) served in
           subst Goal (sym w.journal-is) (record {
             events = es;
             led = subst (λ (s : g.row.S.Denot). Led g.S.Storage.performs c.args.journal.now.storage es s) (sym w.suspend.ensures.storage) c.store-is_stored.ensures.led;
             holds = record {
               keeps = keeps_behind entry error p mid.position new.position z after es (subst (λ (b : Bool). Asks entry b p mid.position es) w.if-is_stored.true asks) front
                   (λ none. w.suspend.ensures.empty (given ∙ none)) (λ some. w.suspend.ensures.lost (λ none. some (sym given ∙ none))) w.suspend.ensures.end w.suspend.ensures.digest w.suspend.ensures.key w.suspend.ensures.link;
-              answered = tt;
+              answered = served;
             };
           })
       | else-is_stored w ↦ subst Goal (sym w.journal-is) (record {
@@ -74,7 +74,7 @@ returns-after-is_stored-clause-performs g c =
         led = c.store-is_stored.ensures.led;
         holds = record {
           keeps = keeps_refused entry error p mid.position z after es (subst (λ (b : Bool). Asks entry b p mid.position es) w.if-is_stored.false asks) (c.in-Err.ensures.unchanged w.if-is_stored.false);
-          answered = tt;
+          answered = none_served policy.answering z after items (c.in-Err.ensures.unchanged w.if-is_stored.false);
         };
       })
     ]
