@@ -1,11 +1,12 @@
 //! Zones with a journal.
 
-use crate::zones::{milliseconds_since, read_zones, tell};
-use dns_durable::recovery::{OpenError, Opened, open_journal};
+use crate::zones::{milliseconds_since, read_zones, read_zones_twice, tell};
+use dns_durable::recovery::{OpenError, Opened as OpenedJournal, open_journal};
 use dns_durable::{CompactError, DurableServer, Progress, ReplayError, replay};
 use dns_journal::files::FileStorage;
 use dns_journal::format::{Link, ReadError};
 use dns_journal::{Journal, Position, State, Storage, StorageError, StoredFiles};
+use dns_nameserver::FormerZones;
 use dns_server::Server;
 use dns_zone::Zone;
 use nameserver_cli::{Arguments, Ending, add_zone, refuse_includes, text_of, zone_of};
@@ -35,24 +36,53 @@ const FORMER_HELP: &str =
 with its updates (--compact), and then remove the journal. To give the updates up, remove the journal. Nothing was changed.
 ";
 
-/// Reads the zones, and the updates of their journal, if there is one.
-pub(crate) fn open_durable<'a>(
+/// Zones that were read, with their journal.
+#[derive(Drop)]
+pub(crate) struct Opened<'a> {
+    /// The zones and the journal.
+    pub(crate) server: DurableServer<FileStorage<'a>>,
+    /// The same zones, as those from before the last update, if they are asked for.
+    pub(crate) former: Option<FormerZones>,
+}
+
+/// Reads the zones, and the updates of their journal, if there is one; and reads them once more if those from before the last update are
+/// asked for.
+pub(crate) fn open<'a>(
     rt: &'a HostRuntime,
     arguments: &Arguments,
-) -> Result<DurableServer<FileStorage<'a>>, Ending> {
+    has_former: bool,
+) -> Result<Opened<'a>, Ending> {
     match (&arguments.durable.journal, arguments.files.as_slice()) {
         (Some(journal), [file, ..]) => {
-            open_with_journal(rt, arguments, file.as_str(), journal.as_str())
+            open_with_journal(rt, arguments, file.as_str(), journal.as_str(), has_former)
         }
-        _ => Ok(DurableServer {
-            server: read_zones(rt, arguments)?,
+        _ => open_without_journal(rt, arguments, has_former),
+    }
+}
+
+/// Reads zones that have no journal.
+fn open_without_journal<'a>(
+    rt: &'a HostRuntime,
+    arguments: &Arguments,
+    has_former: bool,
+) -> Result<Opened<'a>, Ending> {
+    let (server, former) = if has_former {
+        let (server, copy) = read_zones_twice(rt, arguments)?;
+        (server, Some(FormerZones::new(copy, arguments.answering)))
+    } else {
+        (read_zones(rt, arguments)?, None)
+    };
+    Ok(Opened {
+        server: DurableServer {
+            server,
             journal: Journal {
                 storage: FileStorage::without_files(rt),
                 position: START,
             },
             draft: Progress::Idle,
-        }),
-    }
+        },
+        former,
+    })
 }
 
 /// Files that were read, and the storage that they are from.
@@ -79,16 +109,17 @@ impl<'a> Stored<'a> {
         }
     }
 
-    /// Opens the journal of the files, and serves its updates again.
+    /// Opens the journal of the files, and serves its updates again, by each of these servers.
     fn into_journal(
         self,
         rt: &HostRuntime,
         server: &mut Server,
+        copy: &mut Option<Server>,
         path: &str,
     ) -> Result<Journal<FileStorage<'a>>, Ending> {
         let Stored { storage, files } = self;
         let mut storage = storage;
-        let position = replay_journal(rt, &mut storage, &files, server, path)?;
+        let position = replay_journal(rt, &mut storage, &files, server, copy, path)?;
         drop(files);
         Ok(Journal { storage, position })
     }
@@ -100,14 +131,23 @@ fn open_with_journal<'a>(
     arguments: &Arguments,
     file: &str,
     path: &str,
-) -> Result<DurableServer<FileStorage<'a>>, Ending> {
+    has_former: bool,
+) -> Result<Opened<'a>, Ending> {
     let stored = Stored::read(rt, file, path)?;
     let mut server = server_of(rt, arguments, file, &stored.files)?;
-    let journal = stored.into_journal(rt, &mut server, path)?;
-    Ok(DurableServer {
-        server,
-        journal,
-        draft: Progress::Idle,
+    let mut copy = if has_former {
+        Some(quiet_server_of(rt, arguments, file, &stored.files)?)
+    } else {
+        None
+    };
+    let journal = stored.into_journal(rt, &mut server, &mut copy, path)?;
+    Ok(Opened {
+        server: DurableServer {
+            server,
+            journal,
+            draft: Progress::Idle,
+        },
+        former: copy.map(|copy| FormerZones::new(copy, arguments.answering)),
     })
 }
 
@@ -121,6 +161,19 @@ fn server_of(
     let start = Instant::now(rt);
     let zone = stored_zone(rt, arguments, file, files)?;
     tell(rt, file, &zone, milliseconds_since(rt, start));
+    let mut server = Server::new(rt.alloc());
+    add_zone(rt.alloc(), &mut server, file, zone)?;
+    Ok(server)
+}
+
+/// Returns a server of the zone of files that were read.
+fn quiet_server_of(
+    rt: &HostRuntime,
+    arguments: &Arguments,
+    file: &str,
+    files: &StoredFiles,
+) -> Result<Server, Ending> {
+    let zone = stored_zone(rt, arguments, file, files)?;
     let mut server = Server::new(rt.alloc());
     add_zone(rt.alloc(), &mut server, file, zone)?;
     Ok(server)
@@ -150,24 +203,38 @@ fn replay_journal(
     storage: &mut FileStorage<'_>,
     files: &StoredFiles,
     server: &mut Server,
+    copy: &mut Option<Server>,
     path: &str,
 ) -> Result<Position, Ending> {
     let key = drawn_key(rt, path)?;
-    let Opened { updates, position } = match open_journal(storage, rt.alloc(), files, key) {
+    let OpenedJournal { updates, position } = match open_journal(storage, rt.alloc(), files, key) {
         Ok(opened) => opened,
         Err(error) => return Err(open_ending(rt, storage, path, error)),
     };
     storage.note_end(position.end);
     tell_cut(rt, storage, path);
-    match replay(server, rt.alloc(), updates.as_slice()) {
-        Ok(()) => {}
-        // Memory for an update was refused.
-        Err(ReplayError::Memory) => return Err(Ending::Memory),
-        Err(error) => return Err(Ending::Refused(format!(in rt.alloc(); "{path}: {error}\n")?)),
+    serve_again(rt, server, updates.as_slice(), path)?;
+    if let Some(copy) = copy {
+        serve_again(rt, copy, updates.as_slice(), path)?;
     }
     // A failure to write to standard error can't be reported.
     let _written = eprintln!(rt; "{path}: {} entries", updates.len());
     Ok(position)
+}
+
+/// Serves the updates of the journal at a path again.
+fn serve_again(
+    rt: &HostRuntime,
+    server: &mut Server,
+    updates: &[&[u8]],
+    path: &str,
+) -> Result<(), Ending> {
+    match replay(server, rt.alloc(), updates) {
+        Ok(()) => Ok(()),
+        // Memory for an update was refused.
+        Err(ReplayError::Memory) => Err(Ending::Memory),
+        Err(error) => Err(Ending::Refused(format!(in rt.alloc(); "{path}: {error}\n")?)),
+    }
 }
 
 /// Draws the key of the journal at a path, or says why there is none.

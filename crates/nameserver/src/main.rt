@@ -15,21 +15,21 @@ mod replay;
 mod source;
 mod zones;
 
-use crate::durable::{compact_and_end, open_durable};
+ghost use Rattle.std.specs.Prelude.{◌≡◌, is_some};
+ghost use Rattle.nameserver_cli.specs.Arguments.{offers_transfers};
+
+use crate::durable::{Opened, compact_and_end, open};
 use crate::files::read_text;
 use crate::policy::read_policy;
 use crate::replay::{conclude, read_replay};
 use crate::source::Source;
-use crate::zones::{read_zones, read_zones_twice};
-use dns_durable::DurableServer;
+use dns_durable::Policy;
 use dns_faults::rules::{FaultTable, Service as FaultService};
 use dns_journal::files::FileStorage;
-use dns_nameserver::{FormerZones, NameServer, ZoneServer};
-use dns_server::AddressList;
 use nameserver_cli::replay::{Part, Replay};
 use nameserver_cli::{Arguments, Ending, ReplayMode, faults_of, read_arguments};
 use nameserver_handlers::{
-    DurableHandler, LoggedServer, Notices, RequestLog, Transfers, WallClock, recorder_of,
+    Notices, RequestHandler, RequestLog, Settings, Transfers, Upkeep, WallClock, recorder_of,
     tell_unmatched,
 };
 use std::fs::{File, OpenOptions};
@@ -131,10 +131,7 @@ fn serve(rt: &HostRuntime, arguments: Arguments, part: Option<&Part>) -> Result<
     if part.is_none() {
         tell_lost_serials(rt, &arguments);
     }
-    if arguments.durable.is_given() {
-        return run_durable(rt, arguments, part);
-    }
-    run_with_faults(rt, arguments, part)
+    run_server(rt, arguments, part)
 }
 
 /// Says on standard error if secondaries are notified of serial numbers that a restart would lose.
@@ -147,134 +144,69 @@ fn tell_lost_serials(rt: &HostRuntime, arguments: &Arguments) {
     }
 }
 
-/// Serves zones, some requests by faults on demand.
-fn run_with_faults(
+/// Serves zones; or replaces the zone file by the zone with the updates of its journal, if that is asked for.
+fn run_server(
     rt: &HostRuntime,
     arguments: Arguments,
     part: Option<&Part>,
 ) -> Result<String, Ending> {
-    let are_offered = arguments.offers_transfers();
-    let log = open_log(rt, &arguments)?;
-    let mut server = name_server(rt, &arguments, part)?;
-    let source = Source::open(rt, &arguments, part)?;
-    let zones = server.zones.server.zones();
-    let notices = Notices::new(rt, zones, arguments.notify.as_slice())?;
-    let recorder = recorder_of(rt.alloc(), zones, arguments.kept_differences())?;
-    let (updaters, secondaries) = arguments.into_lists();
-    server.updaters = updaters;
-    let transfers = Transfers {
-        are_offered,
-        secondaries,
-        clock: source.clock(),
-    };
-    let mut handler = LoggedServer {
-        rt,
-        server,
-        recorder,
-        transfers,
-        notices,
-        log,
-    };
-    source.run(rt, &mut handler)
-}
-
-/// Returns a name server that takes no updates yet.
-fn name_server(
-    rt: &HostRuntime,
-    arguments: &Arguments,
-    part: Option<&Part>,
-) -> Result<NameServer, Ending> {
-    let faults = fault_table(rt, arguments, part)?;
-    let zones = zone_server(rt, arguments, &faults)?;
-    tell_unmatched(
-        rt,
-        fault_path(arguments, part),
-        &faults,
-        zones.server.zones(),
-    );
-    Ok(NameServer {
-        zones,
-        faults,
-        limit: arguments.limit,
-        updaters: AddressList::new(rt.alloc()),
-    })
-}
-
-/// Serves zones, with keys or a journal; or replaces the zone file, if that is asked for.
-fn run_durable(
-    rt: &HostRuntime,
-    arguments: Arguments,
-    part: Option<&Part>,
-) -> Result<String, Ending> {
-    let mut server = open_durable(rt, &arguments)?;
+    let faults = fault_table(rt, &arguments, part)?;
+    let mut opened = open(rt, &arguments, has_stale(&faults))?;
     if arguments.durable.compact {
-        compact_and_end(rt, &arguments, &mut server)?;
+        compact_and_end(rt, &arguments, &mut opened.server)?;
         return Ok(String::new(rt.alloc()));
     }
-    let mut handler = handler_of(rt, &arguments, server)?;
-    let are_offered = arguments.offers_transfers();
+    let zones = opened.server.server.zones();
+    tell_unmatched(rt, fault_path(&arguments, part), &faults, zones);
+    let log = open_log(rt, &arguments)?;
+    let notices = Notices::new(rt, zones, arguments.notify.as_slice())?;
+    let recorder = recorder_of(rt.alloc(), zones, arguments.kept_differences())?;
+    let upkeep = Upkeep::from(arguments.durable.journal_limit);
+    let policy = read_policy(rt, &arguments, zones)?;
     let source = Source::open(rt, &arguments, part)?;
-    let (updaters, secondaries) = arguments.into_lists();
-    handler.updaters = updaters;
-    handler.transfers = Transfers {
-        are_offered,
-        secondaries,
-        clock: source.clock(),
+    let settings = settings_of(arguments, policy, source.clock());
+    let Opened { server, former } = opened;
+    let mut handler = RequestHandler {
+        rt,
+        server,
+        former,
+        faults,
+        settings,
+        recorder,
+        notices,
+        log,
+        upkeep,
     };
     source.run(rt, &mut handler)
 }
 
-/// Returns what handles the requests to a server. It takes no updates without a key yet.
-fn handler_of<'a>(
-    rt: &'a HostRuntime,
-    arguments: &Arguments,
-    server: DurableServer<FileStorage<'a>>,
-) -> Result<DurableHandler<'a, HostRuntime, FileStorage<'a>, File>, Ending> {
-    let zones = server.server.zones();
-    let policy = read_policy(rt, arguments, zones)?;
-    let log = open_log(rt, arguments)?;
-    let notices = Notices::new(rt, zones, arguments.notify.as_slice())?;
-    let recorder = recorder_of(rt.alloc(), zones, arguments.kept_differences())?;
-    Ok(DurableHandler {
-        rt,
-        server,
+/// Returns how requests are answered, and what their requestors may do, with a clock by which signatures are in time.
+fn settings_of(arguments: Arguments, policy: Policy, clock: WallClock) -> Settings
+    ensures policy { result.policy ≡ policy }
+    ensures limit { result.limit ≡ arguments.limit }
+    ensures updaters { result.updaters ≡ arguments.updaters }
+    ensures transfers { result.transfers ≡ record {
+      are_offered = offers_transfers arguments.answering;
+      secondaries = arguments.secondaries;
+      clock = clock;
+    } }
+    ensures journal { result.has_journal ≡ is_some arguments.durable.journal }
+{
+    let limit = arguments.limit;
+    let are_offered = arguments.offers_transfers();
+    let has_journal = arguments.durable.journal.is_some();
+    let (updaters, secondaries) = arguments.into_lists();
+    Settings {
         policy,
-        limit: arguments.limit,
-        updaters: AddressList::new(rt.alloc()),
-        recorder,
+        limit,
+        updaters,
         transfers: Transfers {
-            are_offered: arguments.offers_transfers(),
-            secondaries: AddressList::new(rt.alloc()),
-            clock: WallClock::System,
+            are_offered,
+            secondaries,
+            clock,
         },
-        notices,
-        journal_limit: arguments.durable.journal_limit,
-        retry_limit: 0,
-        log,
-        is_tended: true,
-        has_failed: false,
-    })
-}
-
-/// Reads the zones, and makes a copy of them if a fault needs those from before the last update.
-fn zone_server(
-    rt: &HostRuntime,
-    arguments: &Arguments,
-    faults: &FaultTable,
-) -> Result<ZoneServer, Ending> {
-    let (server, former) = if has_stale(faults) {
-        let (server, copy) = read_zones_twice(rt, arguments)?;
-        (server, Some(FormerZones::new(copy, arguments.answering)))
-    } else {
-        (read_zones(rt, arguments)?, None)
-    };
-    Ok(ZoneServer {
-        alloc: rt.alloc(),
-        answering: arguments.answering,
-        server,
-        former,
-        change: None,
-    })
+        has_journal,
+    }
 }
 
 /// Returns `true` if a rule answers by the rows from before the last update.

@@ -1,5 +1,9 @@
 //! Keys and grants.
 
+ghost use Rattle.std.specs.List.{AllZip};
+ghost use Rattle.std.specs.Prelude.{◌≡◌, IfOk, map, string_bytes};
+ghost use Rattle.nameserver_handlers.specs.Grants.{IsGrantOf};
+
 use crate::files::read_key_file;
 use dns_durable::Policy;
 use dns_tsig::Key;
@@ -13,7 +17,11 @@ pub(crate) fn read_policy(
     rt: &HostRuntime,
     arguments: &Arguments,
     zones: &[Zone],
-) -> Result<Policy, Ending> {
+) -> Result<Policy, Ending>
+    ensures answering { IfOk result (λ policy. policy.answering ≡ arguments.now.answering) }
+    ensures grants { IfOk result (λ policy. AllZip (IsGrantOf policy.keys.items zones.now)
+        (map string_bytes arguments.now.durable.grants.items) policy.grants.items) }
+{
     let keys = read_keys(rt, arguments.durable.keys.as_slice())?;
     let texts = arguments.durable.grants.as_slice();
     let grants = grants_of(rt.alloc(), texts, keys.as_slice(), zones)?;

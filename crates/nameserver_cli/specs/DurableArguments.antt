@@ -1,15 +1,11 @@
 -- What is given of keys and of a journal.
-use Rattle.std.specs.Prelude.{◌≡◌, ◌<◌, ◌≤◌, ◌||◌, ◌==◌, not, length, List, ℕ, Bool, Option, Some, None, codes, is_some, map, option_map, string_bytes}
+use Rattle.std.specs.Prelude.{◌≡◌, ◌<◌, ◌≤◌, List, ℕ, Option, Some, None, codes, map, option_map, string_bytes}
 use Rattle.clap.specs.Matches.{first_value}
 use Rattle.clap.specs.declared.parser.matches.Found.{Found}
 use Rattle.nameserver_cli.specs.declared.durable_arguments.DurableArguments.{DurableArguments}
 use Rattle.nameserver_cli.specs.declared.ending.Ending.{Ending}
 use Rattle.nameserver_cli.specs.Ending.{IsOfInvalidValue}
 use Rattle.nameserver_cli.specs.Options.{IsNumber, Refuses, is_given, values_of}
-
--- there is a journal, a key or a grant
-abbrev pub is_durable : DurableArguments → Bool
-is_durable durable = is_some durable.journal || (not (length durable.keys.items == 0) || not (length durable.grants.items == 0))
 
 -- the length of a journal, in bytes, from which on it is begun anew: 16 MiB if the option is not given
 abbrev pub IsJournalLimit : Option (List ℕ) → ℕ → Type 0
@@ -34,7 +30,3 @@ pub record AreDurable (found : Found) (durable : DurableArguments) : Type 0 wher
 abbrev pub IsJournalRefusal : (file_count : ℕ) → Option (List ℕ) → Ending → Type 0
 IsJournalRefusal file_count value ending = (1 < file_count)
     × Refuses (codes "journal") (codes "there is more than one zone file") value ending
-
--- faults are asked for, too
-abbrev pub IsFaultsRefusal : Option (List ℕ) → Ending → Type 0
-IsFaultsRefusal = Refuses (codes "faults") (codes "faults are not made beside keys or a journal")

@@ -1,8 +1,8 @@
 //! The arguments about keys and a journal.
 
-ghost use Rattle.std.specs.Prelude.{◌≡◌, ◌≤◌, IfOk, IfErr, OnOk, None, true, is_some, codes};
+ghost use Rattle.std.specs.Prelude.{◌≡◌, ◌≤◌, IfOk, IfErr, OnOk, true, is_some, codes};
 ghost use Rattle.clap.specs.Matches.{first_value, found_of};
-ghost use Rattle.nameserver_cli.specs.DurableArguments.{AreDurable, IsFaultsRefusal, IsJournalLimit, IsJournalLimitRefusal, IsJournalRefusal, is_durable};
+ghost use Rattle.nameserver_cli.specs.DurableArguments.{AreDurable, IsJournalLimit, IsJournalLimitRefusal, IsJournalRefusal};
 
 use crate::arguments::{flag, is_given, option, text_in, texts_in};
 use crate::ending::Ending;
@@ -41,15 +41,6 @@ impl Drop for DurableArguments {
         drop(journal);
         drop(keys);
         drop(grants);
-    }
-}
-
-impl DurableArguments {
-    /// Returns `true` if there is a journal, a key or a grant.
-    pub fn is_given(&self) -> bool
-        ensures { result ≡ is_durable self.now }
-    {
-        self.journal.is_some() || !self.keys.is_empty() || !self.grants.is_empty()
     }
 }
 
@@ -103,23 +94,16 @@ pub(crate) fn durable_in(
     ensures given { IfOk result (AreDurable (found_of matches.now)) }
     ensures one { OnOk result (is_some (first_value (found_of matches.now) (codes "journal")) ≡ true
         → file_count ≤ 1) }
-    ensures no_faults { IfOk result (λ durable.
-        is_durable durable ≡ true
-        → first_value (found_of matches.now) (codes "faults") ≡ None) }
 {
     let journal = text_in(alloc, matches, "journal")?;
     check_journal(alloc, matches, file_count)?;
-    let durable = DurableArguments {
+    Ok(DurableArguments {
         journal,
         journal_limit: limit_in(alloc, matches)?,
         compact: is_given(matches, "compact"),
         keys: texts_in(alloc, matches, "key")?,
         grants: texts_in(alloc, matches, "grant")?,
-    };
-    if durable.is_given() {
-        refuse_faults(alloc, matches)?;
-    }
-    Ok(durable)
+    })
 }
 
 /// Refuses a journal with several zone files.
@@ -134,21 +118,6 @@ fn check_journal(alloc: Global, matches: &ArgMatches<'_>, file_count: usize) -> 
             Err(Ending::invalid(alloc, "journal", path, "there is more than one zone file"))
         }
         _ => Ok(()),
-    }
-}
-
-/// Refuses a fault table beside keys or a journal.
-fn refuse_faults(alloc: Global, matches: &ArgMatches<'_>) -> Result<(), Ending>
-    ensures ok { OnOk result (first_value (found_of matches.now) (codes "faults") ≡ None) }
-    ensures refused { IfErr result (IsFaultsRefusal
-        (first_value (found_of matches.now) (codes "faults"))) }
-{
-    match matches.get_str("faults") {
-        Some(path) => {
-            let reason = "faults are not made beside keys or a journal";
-            Err(Ending::invalid(alloc, "faults", path, reason))
-        }
-        None => Ok(()),
     }
 }
 

@@ -1,25 +1,34 @@
--- What requests leave, one after another, and what is sent for them.
-use Rattle.std.proofs.Common.{◌≡◌, ◌∙◌, ◌⊎◌, inl, inr, ℕ, zero, suc, Bool, true, false, List, [], ◌∷◌, ◌++◌, take, Option, Some, None, refl, sym, ap, subst}
-use Rattle.std.proofs.lemmas.List.{set-get_or}
-use Rattle.std.proofs.lemmas.Option.{get_or_from_slice_get}
-use Rattle.std.specs.Prelude.{slice_get, slice_set}
-use Rattle.std.specs.Net.Socket.{socket_ip}
+-- What a server has sent, and what has become of its zones.
+use Rattle.std.proofs.Common.{◌≡◌, ◌∙◌, ◌⊎◌, inl, inr, ℕ, Bool, true, false, if◌then◌else◌, List, [], ◌∷◌, ◌++◌, map, Option, Some, None, Result, Ok, Err, refl, sym, ap, subst}
+use Rattle.std.specs.declared.alloc.AllocError.{AllocError}
 use Rattle.std.specs.declared.net.socket_addr.SocketAddr.{SocketAddr}
-use Rattle.dns_authority.specs.declared.service.answering.Answering.{Answering}
-use Rattle.dns_authority.specs.declared.service.answering.Answering.TheVariants.{Plain, Whole}
-use Rattle.dns_authority.specs.service.Answering.{zones_by_op, zones_served}
+use Rattle.dns_durable.proofs.AnsweringLaws.{answers_stay, front_stays}
+use Rattle.dns_durable.proofs.BatchLaws.{all_judged}
+use Rattle.dns_durable.specs.Changes.{reply_bytes}
+use Rattle.dns_durable.specs.Durable.{Responds, Takes, TakesFront}
+use Rattle.dns_durable.specs.Durable.Takes.{a_frame, no_frame}
+use Rattle.dns_durable.specs.Incoming.{AreAdmitted, IsAdmitted, change_of, changes_in, is_change}
+use Rattle.dns_durable.specs.Incoming.AreAdmitted.{no_request as no_incoming, a_request as an_incoming}
+use Rattle.dns_durable.specs.Reply.{AnswersAll, makes_change, zones_left}
+use Rattle.dns_durable.specs.Reply.AnswersAll.{a_request, no_request}
+use Rattle.dns_durable.specs.Rule.{step_of}
+use Rattle.dns_durable.specs.declared.durable_server.Replies.{Replies}
+use Rattle.dns_durable.specs.declared.incoming.Admitted.{Admitted}
+use Rattle.dns_durable.specs.declared.incoming.Arrived.{Arrived}
+use Rattle.dns_durable.specs.declared.incoming.Arrived.TheVariants.{Request, Other}
+use Rattle.dns_durable.specs.declared.incoming.Incoming.{Incoming}
+use Rattle.dns_durable.specs.declared.incoming.Terms.{Terms}
+use Rattle.dns_durable.specs.declared.policy.Policy.{Policy}
 use Rattle.dns_faults.specs.declared.delivery.Delivery.{Delivery}
+use Rattle.dns_faults.specs.declared.rules.fault.Service.{Service}
+use Rattle.dns_faults.specs.declared.rules.fault.Service.TheVariants as services
+use Rattle.dns_faults.specs.declared.decided.Decided.{Decided}
+use Rattle.dns_faults.specs.declared.rules.table.CountedRule.{CountedRule}
+use Rattle.dns_journal.specs.Event.{Event}
+use Rattle.dns_journal.specs.Storage.{Performs}
+use Rattle.dns_journal.specs.declared.journal.Position.{Position}
 use Rattle.dns_messages.specs.declared.message.Message.{Message}
-use Rattle.dns_messages.specs.declared.op_code.OpCode.{OpCode}
-use Rattle.dns_messages.specs.declared.op_code.OpCode.TheVariants as ops
-use Rattle.dns_messages.specs.declared.query.Query.{Query}
-use Rattle.dns_names.specs.declared.reverse.AddrPrefix.{AddrPrefix}
-use Rattle.dns_nameserver.specs.NameServer.{IsCoverageOf, IsLeftByRequest, LeavesZonesFrom, updates_of}
-use Rattle.dns_nameserver.specs.declared.name_server.NameServer.{NameServer}
-use Rattle.dns_server.specs.Server.{route_by_code, route_by_name, route_to, zones_by, zones_with}
-use Rattle.dns_server.specs.Zones.{closest}
-use Rattle.dns_server.specs.declared.updates.Updates.{Updates}
-use Rattle.dns_server.specs.declared.updates.Updates.TheVariants as may
+use Rattle.dns_nameserver.specs.Former.{Former}
 use Rattle.dns_sockets.specs.Handler.{HandlerEvent, RequestContent, Handled, Noticed, Took, Transferred}
 use Rattle.dns_sockets.specs.Ledger.{Earns}
 use Rattle.dns_sockets.specs.Sent.{IsGiven, IsHandled}
@@ -30,187 +39,256 @@ use Rattle.dns_sockets.specs.declared.datagrams.WaitingReply.{WaitingReply}
 use Rattle.dns_sockets.specs.schedule.Schedule.{Waiting}
 use Rattle.dns_sockets.proofs.SentLaws.{given}
 use Rattle.dns_zone.specs.Rows.{ZoneContent}
-use Rattle.dns_zone.specs.Serving.{zone_by_op}
 use Rattle.nameserver_handlers.proofs.ActLaws.{split}
-use Rattle.nameserver_handlers.specs.History.{IsAnswer, IsAnsweredAfter, MayUpdate, NoneUpdates, requests_in, requests_of}
+use Rattle.nameserver_handlers.proofs.RuleLaws.{service_leaves}
+use Rattle.nameserver_handlers.specs.ByRules.{AnswersBy, AnswersByRule, AnswersEach, AnswersOne, AnswersUnless, AnswersWith, ByFormer, ByFormerIf, ByService, LeavesEach, LeavesWith, Steps}
+use Rattle.nameserver_handlers.specs.ByRules.LeavesEach.{more_left, none_left, one_left}
+use Rattle.nameserver_handlers.specs.Handling.{AnswersTogether, AreIncoming, AreLeft, AreServed, AreTerms, IsTerms, Keeping, LeavesTogether, Responded, Serves}
+use Rattle.nameserver_handlers.specs.History.{IsAnswer, IsHandledAfter, MayUpdate, NoneUpdates, requests_in, requests_of}
 use Rattle.nameserver_handlers.specs.History.IsAnswer.{as_notification, to_request}
-use Rattle.nameserver_handlers.specs.Logged.{Answers, AnswersAll, LeavesAll, Serving, Steps, settled}
+use Rattle.nameserver_handlers.specs.declared.settings.Settings.{Settings}
 
--- ---- one after another
+-- ---- what is sent
 
-leaves_both : (old mid new : Serving) (rs more : List RequestContent) → LeavesAll old rs mid → LeavesAll mid more new → LeavesAll old (rs ++ more) new
-leaves_both old mid new [] more first next = subst (λ (s : Serving). LeavesAll s more new) first next
-leaves_both old mid new (r ∷ rs) more first next = (first.0, (first.1.0, leaves_both first.0 mid new rs more first.1.1 next))
-
-answers_leave : (old new : Serving) (rs : List RequestContent) (ds : List Delivery) → AnswersAll old rs ds new → LeavesAll old rs new
-answers_leave old new [] ds all = all.1
-answers_leave old new (r ∷ rs) [] all = absurd all
-answers_leave old new (r ∷ rs) (d ∷ ds) all = (all.0, (all.1.0.1.1.1, answers_leave all.0 new rs ds all.1.1))
-
-step_leaves : (old new : Serving) (event : HandlerEvent) → Steps old event new → LeavesAll old (requests_of event) new
-step_leaves old new (Handled rs (Some ds)) step = answers_leave old new rs ds step
-step_leaves old new (Handled rs None) step = step
-step_leaves old new (Transferred r is_busy (Some found)) step = step.1
-step_leaves old new (Transferred r is_busy None) step = step
-step_leaves old new (Took r is_taken) step = step
-step_leaves old new (Noticed now notice) step = step
-
-module _ {S H : Type 0} (performs : S → WorldEvent → S → Type 0) (view : H → Serving) where
-  abbrev By_view : H → HandlerEvent → H → Type 0
-  By_view old event new = Steps (view old) event (view new)
-
-  pub acts_leave : (w new : S) (h after : H) (acts : List Act) → Leads performs By_view w h acts new after → LeavesAll (view h) (requests_in acts) (view after)
-  acts_leave w new h after [] leads = sym (ap view leads.1)
-  acts_leave w new h after (At event ∷ acts) leads = acts_leave leads.0 new h after acts leads.1.1
-  acts_leave w new h after (By origin event ∷ acts) leads =
-      leaves_both (view h) (view leads.0) (view after) (requests_of event) (requests_in acts) (step_leaves (view h) (view leads.0) event leads.1.0)
-      (acts_leave w new leads.0 after acts leads.1.1)
-
-  -- ---- what is sent
-
-  answered_at : (old new : Serving) (rs : List RequestContent) (ds : List Delivery) (place : ℕ) (r : RequestContent) (d : Delivery) → AnswersAll old rs ds new
-      → slice_get rs place ≡ Some r → slice_get ds place ≡ Some d → IsAnsweredAfter old (take place rs) r d
-  answered_at old new [] ds place r d all is_request is_delivery = absurd (cc is_request)
-  answered_at old new (q ∷ rs) [] place r d all is_request is_delivery = absurd all
-  answered_at old new (q ∷ rs) (e ∷ ds) zero r d all is_request is_delivery = record {
-    current = old;
-    next = all.0;
-    reached = refl;
-    answers = subst (λ (x : RequestContent). Answers old x d all.0) (cc is_request) (subst (λ (x : Delivery). Answers old q x all.0) (cc is_delivery) all.1.0);
-  }
-  answered_at old new (q ∷ rs) (e ∷ ds) (suc place) r d all is_request is_delivery =
-      let rest = answered_at all.0 new rs ds place r d all.1.1 is_request is_delivery in
-      record { current = rest.current; next = rest.next; reached = (all.0, (all.1.0.1.1.1, rest.reached)); answers = rest.answers }
-
-  answered_later : (old mid : Serving) (before rs : List RequestContent) (r : RequestContent) (d : Delivery) → LeavesAll old before mid → IsAnsweredAfter mid rs r d
-      → IsAnsweredAfter old (before ++ rs) r d
-  answered_later old mid before rs r d leaves answered =
-      record { current = answered.current; next = answered.next; reached = leaves_both old mid answered.current before rs leaves answered.reached; answers = answered.answers }
-
-  of_handled : (w new : S) (h after : H) (acts : List Act) (socket : ℕ) (r : RequestContent) (d : Delivery) (handled : IsHandled socket r d acts) → Leads performs By_view w h acts new after
-      → IsAnsweredAfter (view h) (requests_in handled.before ++ take handled.place handled.requests) r d
+module _ {D H : Type 0} (performs : D → WorldEvent → D → Type 0) (steps : H → HandlerEvent → H → Type 0) where
+  of_handled : (w new : D) (h after : H) (acts : List Act) (socket : ℕ) (r : RequestContent) (d : Delivery) (handled : IsHandled socket r d acts) → Leads performs steps w h acts new after
+      → IsHandledAfter performs steps w h handled.before handled.requests handled.deliveries
   of_handled w new h after acts socket r d handled leads =
-      let parts = split performs By_view w new h after handled.before (By (Socket socket) (Handled handled.requests (Some handled.deliveries)) ∷ handled.rest)
-      (subst (λ (all : List Act). Leads performs By_view w h all new after) handled.acts_are leads) in
-      let call = parts.2.1 in
-      answered_later (view h) (view parts.1) (requests_in handled.before) (take handled.place handled.requests) r d
-      (acts_leave w parts.0 h parts.1 handled.before parts.2.0)
-      (answered_at (view parts.1) (view call.0) handled.requests handled.deliveries handled.place r d call.1.0 handled.request_is handled.delivery_is)
+      let parts = split performs steps w new h after handled.before (By (Socket socket) (Handled handled.requests (Some handled.deliveries)) ∷ handled.rest)
+      (subst (λ (all : List Act). Leads performs steps w h all new after) handled.acts_are leads) in
+      record { reached = parts.0; current = parts.1; next = parts.2.1.0; leads = parts.2.0; step = parts.2.1.1.0 }
 
-  of_given : (w new : S) (h after : H) (acts : List Act) (socket : ℕ) (bytes : List ℕ) (peer : SocketAddr) → Leads performs By_view w h acts new after
-      → IsGiven socket bytes peer acts → IsAnswer (view h) socket bytes peer acts
+  of_given : (w new : D) (h after : H) (acts : List Act) (socket : ℕ) (bytes : List ℕ) (peer : SocketAddr) → Leads performs steps w h acts new after
+      → IsGiven socket bytes peer acts → IsAnswer performs steps w h socket bytes peer acts
   of_given w new h after acts socket bytes peer leads (as_reply r d reply handled same_peer same_reply same_bytes) =
       to_request r d reply handled same_peer same_reply same_bytes (of_handled w new h after acts socket r d handled leads)
   of_given w new h after acts socket bytes peer leads (as_notice now is) = as_notification now is
 
-  pub sent_is_answer : (w new : S) (h after : H) (before rest : List Act) (socket : ℕ) (bytes : List ℕ) (peer : SocketAddr) (left : List (Waiting WaitingReply))
-      → Leads performs By_view w h (before ++ At (Sent socket bytes peer true) ∷ rest) new after
-      → Earns [] left (before ++ At (Sent socket bytes peer true) ∷ rest) → IsAnswer (view h) socket bytes peer before
+  pub sent_is_answer : (w new : D) (h after : H) (before rest : List Act) (socket : ℕ) (bytes : List ℕ) (peer : SocketAddr) (left : List (Waiting WaitingReply))
+      → Leads performs steps w h (before ++ At (Sent socket bytes peer true) ∷ rest) new after
+      → Earns [] left (before ++ At (Sent socket bytes peer true) ∷ rest) → IsAnswer performs steps w h socket bytes peer before
   sent_is_answer w new h after before rest socket bytes peer left leads earns =
-      let parts = split performs By_view w new h after before (At (Sent socket bytes peer true) ∷ rest) leads in
+      let parts = split performs steps w new h after before (At (Sent socket bytes peer true) ∷ rest) leads in
       of_given w parts.0 h parts.1 before socket bytes peer parts.2.0 (given left before rest socket bytes peer earns)
 
--- ---- zones
+-- ---- requests that are no updates that may be made
 
-update_or_not : (op : OpCode) → (op ≡ ops.Update) ⊎ (op ≡ ops.Update → ⊥)
-update_or_not ops.Query = inr (λ e. absurd (cc e))
-update_or_not ops.Status = inr (λ e. absurd (cc e))
-update_or_not ops.Notify = inr (λ e. absurd (cc e))
-update_or_not ops.Update = inl refl
-update_or_not (ops.Unknown number) = inr (λ e. absurd (cc e))
+true_or_false : (b : Bool) → (b ≡ true) ⊎ (b ≡ false)
+true_or_false true = inl refl
+true_or_false false = inr refl
 
--- a zone stays
-kept_zone : (zone : ZoneContent) (m : Message) (op : OpCode) → (op ≡ ops.Update → ⊥) → zone_by_op zone m op ≡ zone
-kept_zone zone m ops.Query other = refl
-kept_zone zone m ops.Status other = refl
-kept_zone zone m ops.Notify other = refl
-kept_zone zone m ops.Update other = absurd (other refl)
-kept_zone zone m (ops.Unknown number) other = refl
-
-same_with : (zones : List ZoneContent) (place : ℕ) (m : Message) (found : Option ZoneContent) → slice_get zones place ≡ found → (m.metadata.op_code ≡ ops.Update → ⊥)
-    → zones_with zones place m found ≡ zones
-same_with zones place m None is other = refl
-same_with zones place m (Some zone) is other =
-    ap (λ (z : ZoneContent). slice_set zones place z) (kept_zone zone m m.metadata.op_code other ∙ sym (get_or_from_slice_get zones place zone zone is)) ∙ set-get_or zones place zone
-
-same_to : (zones : List ZoneContent) (m : Message) (place : Option ℕ) → (m.metadata.op_code ≡ ops.Update → ⊥) → zones_by zones m (route_to place) ≡ zones
-same_to zones m None other = refl
-same_to zones m (Some place) other = same_with zones place m (slice_get zones place) refl other
-
-same_by_name : (zones : List ZoneContent) (m : Message) (queries : List Query) → (m.metadata.op_code ≡ ops.Update → ⊥) → zones_by zones m (route_by_name zones queries) ≡ zones
-same_by_name zones m [] other = refl
-same_by_name zones m (q ∷ []) other = same_to zones m (closest zones q.name.labels) other
-same_by_name zones m (q ∷ r ∷ more) other = refl
-
-same_by : (zones : List ZoneContent) (m : Message) (updates : Updates) (queries : List Query) (op : OpCode) → (m.metadata.op_code ≡ ops.Update → ⊥) → (op ≡ ops.Update → ⊥)
-    → zones_by zones m (route_by_code updates zones queries op) ≡ zones
-same_by zones m updates queries ops.Query other differs = same_by_name zones m queries other
-same_by zones m updates queries ops.Status other differs = refl
-same_by zones m updates queries ops.Notify other differs = refl
-same_by zones m updates queries ops.Update other differs = absurd (differs refl)
-same_by zones m updates queries (ops.Unknown number) other differs = refl
-
--- an update without permission leads to no zone
-refused_route : (zones : List ZoneContent) (m : Message) (queries : List Query) (op : OpCode) → op ≡ ops.Update → zones_by zones m (route_by_code may.Refused zones queries op) ≡ zones
-refused_route zones m queries ops.Query is = absurd (cc is)
-refused_route zones m queries ops.Status is = absurd (cc is)
-refused_route zones m queries ops.Notify is = absurd (cc is)
-refused_route zones m queries ops.Update is = refl
-refused_route zones m queries (ops.Unknown number) is = absurd (cc is)
-
-module _ (zones : List ZoneContent) (m : Message) where
-  other_kept : (answering : Answering) (updates : Updates) → (m.metadata.op_code ≡ ops.Update → ⊥) → zones_served answering updates zones m ≡ zones
-  other_kept Plain updates other = same_by zones m updates m.queries m.metadata.op_code other other
-  other_kept (Whole any serials) updates other = by_op m.metadata.op_code other
+module _ (settings : Settings) where
+  -- such a request changes nothing
+  no_change : (r : RequestContent) (t : Terms) (i : Incoming) (a : Admitted) → ¬ (MayUpdate settings r) → IsTerms settings.limit settings.updaters r t
+      → i.bytes.now ≡ r.bytes → i.terms.now ≡ t → IsAdmitted settings.policy i (Request a) → makes_change a ≡ false
+  no_change r t i a may_not terms bytes terms_are admitted = by (true_or_false (makes_change a))
     where
-      by_op : (op : OpCode) → (op ≡ ops.Update → ⊥) → zones_by_op serials updates op zones m ≡ zones
-      by_op ops.Query differs = refl
-      by_op ops.Status differs = refl
-      by_op ops.Notify differs = refl
-      by_op ops.Update differs = absurd (differs refl)
-      by_op (ops.Unknown number) differs = refl
-
-  refused_kept : (answering : Answering) → m.metadata.op_code ≡ ops.Update → zones_served answering may.Refused zones m ≡ zones
-  refused_kept Plain is = refused_route zones m m.queries m.metadata.op_code is
-  refused_kept (Whole any serials) is = subst (λ (op : OpCode). zones_by_op serials may.Refused op zones m ≡ zones) (sym is) refl
-
-  served_kept : (answering : Answering) (covered : Bool) → (covered ≡ true → m.metadata.op_code ≡ ops.Update → ⊥) → zones_served answering (updates_of covered) zones m ≡ zones
-  served_kept answering covered not_both = by (update_or_not m.metadata.op_code) covered not_both
-    where
-      by : (m.metadata.op_code ≡ ops.Update) ⊎ (m.metadata.op_code ≡ ops.Update → ⊥) → (covered : Bool) → (covered ≡ true → m.metadata.op_code ≡ ops.Update → ⊥)
-          → zones_served answering (updates_of covered) zones m ≡ zones
-      by (inl is) true not_both = absurd (not_both refl is)
-      by (inl is) false not_both = refused_kept answering is
-      by (inr other) covered not_both = other_kept answering (updates_of covered) other
-
--- what a request leaves that may change nothing
-record IsKept (old new : Serving) : Type 0 where
-  zones : new.server.zones.server ≡ old.server.zones.server
-  updaters : new.server.updaters ≡ old.server.updaters
-
-module _ (old : Serving) (r : RequestContent) (may_not : MayUpdate old.server.updaters r → ⊥) where
-  zones_left : (mid : NameServer) (covered : Bool) → IsCoverageOf old.server.updaters (socket_ip r.peer) covered
-      → (mid.zones.server ≡ old.server.zones.server) ⊎ IsLeftByRequest old.server.zones.answering (updates_of covered) old.server.zones.server r.bytes mid.zones.server
-      → mid.zones.server ≡ old.server.zones.server
-  zones_left mid covered coverage (inl same) = same
-  zones_left mid covered coverage (inr by_request) =
-      by_request.after_is ∙ served_kept old.server.zones.server by_request.request old.server.zones.answering covered
-      (λ is_covered is_update. may_not (record {
-        covers = subst (λ (b : Bool). IsCoverageOf old.server.updaters (socket_ip r.peer) b) is_covered coverage;
-        request = by_request.request;
-        reads = by_request.reads;
-        is_update = is_update;
+      by : (makes_change a ≡ true) ⊎ (makes_change a ≡ false) → makes_change a ≡ false
+      by (inr other) = other
+      by (inl makes) = absurd (may_not (record {
+        request = a;
+        bytes_are = ap (λ (x : Incoming). x.bytes.now) admitted.0 ∙ bytes;
+        terms_are = subst (λ (x : Terms). IsTerms settings.limit settings.updaters r x) (sym (ap (λ (x : Incoming). x.terms.now) admitted.0 ∙ terms_are)) terms;
+        judged = admitted.1;
+        is_change = makes;
       }))
 
-  left_kept : (new : Serving) → (new.server ≡ old.server) ⊎ ((mid : NameServer) × (LeavesZonesFrom old.server (socket_ip r.peer) r.bytes mid × (new.server ≡ settled mid))) → IsKept old new
-  left_kept new (inl same) = record { zones = ap (λ (s : NameServer). s.zones.server) same; updaters = ap (λ (s : NameServer). s.updaters) same }
-  left_kept new (inr (mid, (from, is))) = record {
-    zones = ap (λ (s : NameServer). s.zones.server) is ∙ zones_left mid from.covered from.coverage from.leaves.left;
-    updaters = ap (λ (s : NameServer). s.updaters) is ∙ from.updaters_kept;
-  }
+  -- none of them has an entry
+  none_admitted : (rs : List RequestContent) (ts : List Terms) (incoming : List Incoming) (admitted : List Arrived) → NoneUpdates settings rs
+      → AreTerms settings.limit settings.updaters rs ts → AreIncoming rs ts incoming → AreAdmitted settings.policy incoming admitted → changes_in admitted ≡ []
+  none_admitted rs ts incoming admitted none terms are no_incoming = refl
+  none_admitted [] ts incoming admitted none terms are (an_incoming {incoming = i} {more = more} {a = a} {others = others} one rest) = absurd (cc are.1)
+  none_admitted (r ∷ rs) [] incoming admitted none terms are (an_incoming {incoming = i} {more = more} {a = a} {others = others} one rest) = absurd terms
+  none_admitted (r ∷ rs) (t ∷ ts) incoming admitted none terms are (an_incoming {incoming = i} {more = more} {a = Request a} {others = others} one rest) =
+      ap (λ (first : List (List ℕ)). first ++ changes_in others) (ap (λ (b : Bool). if b then a.incoming.bytes.now ∷ [] else []) (no_change r t i a none.0 terms.0 are.0.0 are.0.1 one))
+      ∙ none_admitted rs ts more others none.1 terms.1 are.1 rest
+  none_admitted (r ∷ rs) (t ∷ ts) incoming admitted none terms are (an_incoming {incoming = i} {more = more} {a = Other bytes} {others = others} one rest) =
+      none_admitted rs ts more others none.1 terms.1 are.1 rest
 
-pub zones_stay : (old new : Serving) (rs : List RequestContent) → LeavesAll old rs new → NoneUpdates old.server.updaters rs → new.server.zones.server ≡ old.server.zones.server
-zones_stay old new [] leaves none = ap (λ (s : Serving). s.server.zones.server) leaves
-zones_stay old new (r ∷ rs) leaves none =
-    let kept = left_kept old r none.0 leaves.0 leaves.1.0.left in
-    zones_stay leaves.0 new rs leaves.1.1 (subst (λ (us : List AddrPrefix). NoneUpdates us rs) (sym kept.updaters) none.1) ∙ kept.zones
+-- ---- the zones after requests of which none is an update that may be made
+
+-- the zones stay, whatever the outcome
+responds_stay : (settings : Settings) (rs : List RequestContent) (ts : List Terms) (incoming : List Incoming) (outcome : Result Replies AllocError) (old new : Position) (zones after : List ZoneContent)
+    (es : List Event) → NoneUpdates settings rs → AreTerms settings.limit settings.updaters rs ts → AreIncoming rs ts incoming
+    → Responds settings.policy incoming outcome old new zones after es → after ≡ zones
+responds_stay settings rs ts incoming outcome old new zones after es none terms are (inl given_up) = given_up.zones_are
+responds_stay settings rs ts incoming (Ok replies) old new zones after es none terms are (inr answers) =
+    answers_stay settings.policy zones after answers.admitted (none_admitted settings rs ts incoming answers.admitted none terms are answers.are_admitted)
+    replies.is_stored (map reply_bytes replies.replies.items) (all_judged settings.policy incoming answers.admitted answers.are_admitted) answers.answers.answered
+responds_stay settings rs ts incoming (Err error) old new zones after es none terms are (inr answers) =
+    front_stays settings.policy zones after answers.admitted (none_admitted settings rs ts incoming answers.admitted none terms are answers.are_admitted)
+    answers.answers.answered
+
+-- ---- the settings, whatever the requests are
+
+module _ {S : Type 0} (performs : S → Event → S → Type 0) where
+  abbrev Keeps : Keeping S → Keeping S → Type 0
+  Keeps old new = new.settings ≡ old.settings
+
+  same_keep : (old new : Keeping S) → new ≡ old → Keeps old new
+  same_keep old new same = ap (λ (k : Keeping S). k.settings) same
+
+  responded_keep : (old : Keeping S) (rs : List RequestContent) (ts : List Terms) (replies : Option (List (Option (List ℕ)))) (mid : Keeping S) → Responded performs old rs ts replies mid → Keeps old mid
+  responded_keep old rs ts (Some replies) mid served = served.settings_kept
+  responded_keep old rs ts None mid left = left.settings_kept
+
+  serves_keep : (old : Keeping S) (rs : List RequestContent) (replies : Option (List (Option (List ℕ)))) (new : Keeping S) → Serves performs old rs replies new → Keeps old new
+  serves_keep old rs replies new serves = serves.settled.settings ∙ responded_keep old rs serves.terms replies serves.mid serves.responded
+
+  leaves_keep : (old : Keeping S) (rs : List RequestContent) (new : Keeping S) → LeavesTogether performs old rs new → Keeps old new
+  leaves_keep old rs new (inl same) = same_keep old new same
+  leaves_keep old rs new (inr (replies, serves)) = serves_keep old rs replies new serves
+
+  by_keep : (old : Keeping S) (r : RequestContent) (d : Option Decided) (delivery : Delivery) (new : Keeping S) → AnswersBy performs d old r delivery new → Keeps old new
+  by_keep old r None delivery new is = serves_keep old (r ∷ []) (Some is.replies) new is.serves
+  by_keep old r (Some d) delivery new is =
+      same_keep (record is.mid { faults = new.faults }) new (is.new_is ∙ ap (λ t. record is.mid { faults = t }) (sym (ap (λ (k : Keeping S). k.faults) is.new_is)))
+      ∙ leaves_keep old (r ∷ []) is.mid (service_leaves performs old is.mid r d.decision.fault.service d.request is.reply is.served)
+
+  unless_keep : (old : Keeping S) (r : RequestContent) (found : Option (List ℕ)) (delivery : Delivery) (new : Keeping S) → AnswersUnless performs found old r delivery new → Keeps old new
+  unless_keep old r (Some reply) delivery new is = same_keep old new is.1
+  unless_keep old r None delivery new is = by_keep old r is.0 delivery new is.1.1
+
+  each_keep : (old new : Keeping S) (rs : List RequestContent) (ds : List Delivery) → AnswersEach performs old rs ds new → Keeps old new
+  each_keep old new [] ds is = same_keep old new is.1
+  each_keep old new (r ∷ rs) [] is = absurd is
+  each_keep old new (r ∷ rs) (d ∷ ds) is = each_keep is.0 new rs ds is.1.1 ∙ unless_keep old r is.1.0.0 d is.0 is.1.0.1.1
+
+  left_keep : (old new : Keeping S) (rs : List RequestContent) → LeavesEach performs old rs new → Keeps old new
+  left_keep old new rs (none_left old2 rs2) = refl
+  left_keep old new rs (one_left old2 r more new2 leaves) = leaves_keep old2 (r ∷ []) new2 leaves
+  left_keep old new rs (more_left old2 r more d mid new2 one rest) = left_keep mid new2 more rest ∙ unless_keep old2 r one.0 d mid one.1.1
+
+  with_keep : (rules : List CountedRule) (old new : Keeping S) (rs : List RequestContent) (ds : List Delivery) → AnswersWith performs rules old rs ds new → Keeps old new
+  with_keep [] old new rs ds is = serves_keep old rs (Some is.replies) new is.serves
+  with_keep (rule ∷ rules) old new rs ds is = each_keep old new rs ds is
+
+  left_with_keep : (rules : List CountedRule) (old new : Keeping S) (rs : List RequestContent) → LeavesWith performs rules old rs new → Keeps old new
+  left_with_keep [] old new rs is = leaves_keep old rs new is
+  left_with_keep (rule ∷ rules) old new rs is = left_keep old new rs is
+
+  step_keeps : (old new : Keeping S) (event : HandlerEvent) → Steps performs old event new → Keeps old new
+  step_keeps old new (Handled rs (Some ds)) step = with_keep old.faults old new rs ds step
+  step_keeps old new (Handled rs None) step = left_with_keep old.faults old new rs step
+  step_keeps old new (Transferred r is_busy (Some found)) step = same_keep old new step.1
+  step_keeps old new (Transferred r is_busy None) step = same_keep old new step
+  step_keeps old new (Took r is_taken) step = same_keep old new step
+  step_keeps old new (Noticed now notice) step = step.settings
+
+  module _ {D H : Type 0} (world_performs : D → WorldEvent → D → Type 0) (view : H → Keeping S) where
+    pub settings_stay : (w new : D) (h after : H) (acts : List Act) → Leads world_performs (λ old event new. Steps performs (view old) event (view new)) w h acts new after
+        → (view after).settings ≡ (view h).settings
+    settings_stay w new h after [] leads = ap (λ (x : H). (view x).settings) (sym leads.1)
+    settings_stay w new h after (At event ∷ acts) leads = settings_stay leads.0 new h after acts leads.1.1
+    settings_stay w new h after (By origin event ∷ acts) leads = settings_stay w new leads.0 after acts leads.1.1 ∙ step_keeps (view h) (view leads.0) event leads.1.0
+
+-- ---- the zones, where no request is an update that may be made
+
+module _ {S : Type 0} (performs : S → Event → S → Type 0) where
+  -- what stays of a handler
+  record Stays (old new : Keeping S) : Type 0 where
+    zones : new.zones ≡ old.zones
+    settings : new.settings ≡ old.settings
+
+  same_stays : (old new : Keeping S) → new ≡ old → Stays old new
+  same_stays old new same = record { zones = ap (λ (k : Keeping S). k.zones) same; settings = ap (λ (k : Keeping S). k.settings) same }
+
+  both_stay : (old mid new : Keeping S) → Stays old mid → Stays mid new → Stays old new
+  both_stay old mid new first next = record { zones = next.zones ∙ first.zones; settings = next.settings ∙ first.settings }
+
+  module _ (old : Keeping S) (rs : List RequestContent) (none : NoneUpdates old.settings rs) where
+    responded_stay : (ts : List Terms) (replies : Option (List (Option (List ℕ)))) (mid : Keeping S) → AreTerms old.settings.limit old.settings.updaters rs ts
+        → Responded performs old rs ts replies mid → Stays old mid
+    responded_stay ts (Some replies) mid terms served = record {
+      zones = responds_stay old.settings rs ts served.incoming (Ok served.outcome) old.position mid.position old.zones mid.zones served.serves.events none terms served.are_incoming served.serves.holds;
+      settings = served.settings_kept;
+    }
+    responded_stay ts None mid terms left = record { zones = by left.left; settings = left.settings_kept }
+      where
+        by : (((mid.storage ≡ old.storage) × (mid.position ≡ old.position)) × (mid.zones ≡ old.zones)) ⊎ ((incoming : List Incoming) × (outcome : Result Replies AllocError) × (AreIncoming rs ts incoming × Performs performs old.storage mid.storage (Responds old.settings.policy incoming outcome old.position mid.position old.zones mid.zones)))
+            → mid.zones ≡ old.zones
+        by (inl same) = same.1
+        by (inr (incoming, outcome, (are, served))) = responds_stay old.settings rs ts incoming outcome old.position mid.position old.zones mid.zones served.events none terms are served.holds
+
+    serves_stay : (replies : Option (List (Option (List ℕ)))) (new : Keeping S) → Serves performs old rs replies new → Stays old new
+    serves_stay replies new serves = both_stay old serves.mid new (responded_stay serves.terms replies serves.mid serves.are_terms serves.responded)
+        (record { zones = serves.settled.zones; settings = serves.settled.settings })
+
+    leaves_stay : (new : Keeping S) → LeavesTogether performs old rs new → Stays old new
+    leaves_stay new (inl same) = same_stays old new same
+    leaves_stay new (inr (replies, serves)) = serves_stay replies new serves
+
+  -- one request
+  module _ (old : Keeping S) (r : RequestContent) (may_not : ¬ (MayUpdate old.settings r)) where
+    one_stays : (replies : Option (List (Option (List ℕ)))) (new : Keeping S) → Serves performs old (r ∷ []) replies new → Stays old new
+    one_stays replies new serves = serves_stay old (r ∷ []) (may_not, tt) replies new serves
+
+    former_stays : (asks : Bool) (f : Option Former) (terms : Terms) (m : Message) (reply : Option (List ℕ)) (new : Keeping S) → ByFormerIf performs asks f old terms r m reply new → Stays old new
+    former_stays true (Some f) terms m reply new is = same_stays old new is.unchanged
+    former_stays true None terms m reply new is = one_stays (Some (reply ∷ [])) new is
+    former_stays false f terms m reply new is = one_stays (Some (reply ∷ [])) new is
+
+    service_stays : (service : Service) (m : Message) (reply : Option (List ℕ)) (new : Keeping S) → ByService performs service old r m reply new → Stays old new
+    service_stays services.Plain m reply new is = one_stays (Some (reply ∷ [])) new is
+    service_stays services.Stale m reply new is = former_stays is.asks old.former is.terms m reply new is.answered
+    service_stays services.Drop m reply new is = same_stays old new is.1
+    service_stays (services.Code number) m reply new is = same_stays old new is.unchanged
+
+    by_stays : (d : Option Decided) (delivery : Delivery) (new : Keeping S) → AnswersBy performs d old r delivery new → Stays old new
+    by_stays None delivery new is = one_stays (Some is.replies) new is.serves
+    by_stays (Some d) delivery new is =
+        let served = service_stays d.decision.fault.service d.request is.reply is.mid is.served in
+        record { zones = ap (λ (k : Keeping S). k.zones) is.new_is ∙ served.zones; settings = ap (λ (k : Keeping S). k.settings) is.new_is ∙ served.settings }
+
+    unless_stays : (found : Option (List ℕ)) (delivery : Delivery) (new : Keeping S) → AnswersUnless performs found old r delivery new → Stays old new
+    unless_stays (Some reply) delivery new is = same_stays old new is.1
+    unless_stays None delivery new is = by_stays is.0 delivery new is.1.1
+
+  -- several
+  none_by : (old mid : Keeping S) (rs : List RequestContent) → Stays old mid → NoneUpdates old.settings rs → NoneUpdates mid.settings rs
+  none_by old mid rs stays none = subst (λ (s : Settings). NoneUpdates s rs) (sym stays.settings) none
+
+  each_stays : (old new : Keeping S) (rs : List RequestContent) (ds : List Delivery) → NoneUpdates old.settings rs → AnswersEach performs old rs ds new → Stays old new
+  each_stays old new [] ds none is = same_stays old new is.1
+  each_stays old new (r ∷ rs) [] none is = absurd is
+  each_stays old new (r ∷ rs) (d ∷ ds) none is =
+      let first = unless_stays old r none.0 is.1.0.0 d is.0 is.1.0.1.1 in
+      both_stay old is.0 new first (each_stays is.0 new rs ds (none_by old is.0 rs first none.1) is.1.1)
+
+  left_stays : (old new : Keeping S) (rs : List RequestContent) → NoneUpdates old.settings rs → LeavesEach performs old rs new → Stays old new
+  left_stays old new rs none (none_left old2 rs2) = same_stays old old refl
+  left_stays old new rs none (one_left old2 r more new2 leaves) = leaves_stay old (r ∷ []) (none.0, tt) new2 leaves
+  left_stays old new rs none (more_left old2 r more d mid new2 one rest) =
+      let first = unless_stays old r none.0 one.0 d mid one.1.1 in
+      both_stay old mid new2 first (left_stays mid new2 more (none_by old mid more first none.1) rest)
+
+  with_stays : (rules : List CountedRule) (old new : Keeping S) (rs : List RequestContent) (ds : List Delivery) → NoneUpdates old.settings rs → AnswersWith performs rules old rs ds new → Stays old new
+  with_stays [] old new rs ds none is = serves_stay old rs none (Some is.replies) new is.serves
+  with_stays (rule ∷ rules) old new rs ds none is = each_stays old new rs ds none is
+
+  left_with_stays : (rules : List CountedRule) (old new : Keeping S) (rs : List RequestContent) → NoneUpdates old.settings rs → LeavesWith performs rules old rs new → Stays old new
+  left_with_stays [] old new rs none is = leaves_stay old rs none new is
+  left_with_stays (rule ∷ rules) old new rs none is = left_stays old new rs none is
+
+  step_stays : (old new : Keeping S) (event : HandlerEvent) → old.settings.has_journal ≡ false → NoneUpdates old.settings (requests_of event) → Steps performs old event new → Stays old new
+  step_stays old new (Handled rs (Some ds)) without none step = with_stays old.faults old new rs ds none step
+  step_stays old new (Handled rs None) without none step = left_with_stays old.faults old new rs none step
+  step_stays old new (Transferred r is_busy (Some found)) without none step = same_stays old new step.1
+  step_stays old new (Transferred r is_busy None) without none step = same_stays old new step
+  step_stays old new (Took r is_taken) without none step = same_stays old new step
+  step_stays old new (Noticed now notice) without none step = record { zones = step.zones without; settings = step.settings }
+
+  first_none : (settings : Settings) (rs more : List RequestContent) → NoneUpdates settings (rs ++ more) → NoneUpdates settings rs × NoneUpdates settings more
+  first_none settings [] more none = (tt, none)
+  first_none settings (r ∷ rs) more none = let rest = first_none settings rs more none.1 in ((none.0, rest.0), rest.1)
+
+  module _ {D H : Type 0} (world_performs : D → WorldEvent → D → Type 0) (view : H → Keeping S) where
+    pub zones_stay : (w new : D) (h after : H) (acts : List Act) → Leads world_performs (λ old event new. Steps performs (view old) event (view new)) w h acts new after
+        → (view h).settings.has_journal ≡ false → NoneUpdates (view h).settings (requests_in acts) → (view after).zones ≡ (view h).zones
+    zones_stay w new h after [] leads without none = ap (λ (x : H). (view x).zones) (sym leads.1)
+    zones_stay w new h after (At event ∷ acts) leads without none = zones_stay leads.0 new h after acts leads.1.1 without none
+    zones_stay w new h after (By origin event ∷ acts) leads without none =
+        let both = first_none (view h).settings (requests_of event) (requests_in acts) none in
+        let first = step_stays (view h) (view leads.0) event without both.0 leads.1.0 in
+        zones_stay w new leads.0 after acts leads.1.1 (ap (λ (s : Settings). s.has_journal) first.settings ∙ without)
+        (subst (λ (s : Settings). NoneUpdates s (requests_in acts)) (sym first.settings) both.1) ∙ first.zones

@@ -1,7 +1,7 @@
-pub mod LoggedLaws
-pub mod DurableLaws
+pub mod HandlingLaws
+pub mod RuleLaws
+pub mod EachLaws
+pub mod PolicyLaws
 pub mod ActLaws
 pub mod HistoryLaws
-pub mod DurableHistoryLaws
 pub mod HistoryWitness
-pub mod DurableHistoryWitness

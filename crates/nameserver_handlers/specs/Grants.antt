@@ -1,14 +1,21 @@
 -- Grants, by the texts that state them, and rules of faults: for which names of zones they are.
-use Rattle.std.specs.Prelude.{◌≡◌, ◌==◌, ◌&&◌, ◌||◌, bytes_eq, filter, length, not, true, Bool, ℕ, List, Ok}
+use Rattle.std.specs.Prelude.{◌≡◌, ◌≢◌, ◌==◌, ◌&&◌, ◌||◌, ◌++◌, if◌then◌else◌, ⊤, bytes_eq, codes, filter, length, map, not, slice_get, true, false, Bool, ℕ, List, [], ◌∷◌, Option, Some, None, Ok, Err}
 use Rattle.std.specs.List.{list_any, slice_split}
 use Rattle.dns_durable.specs.GrantText.{grant_in, grant_value}
 use Rattle.dns_faults.specs.declared.rules.rule.NamePattern.{NamePattern}
 use Rattle.dns_faults.specs.declared.rules.rule.NamePattern.TheVariants as names
+use Rattle.dns_durable.specs.declared.error.GrantError.{GrantError}
+use Rattle.dns_durable.specs.declared.error.GrantError.TheVariants as errors
+use Rattle.dns_keys.specs.File.{IsKeyFile, IsRefused, key_value}
+use Rattle.dns_keys.specs.declared.error.KeyFileError.{KeyFileError}
+use Rattle.dns_keys.specs.declared.error.KeyFileError.TheVariants as files
 use Rattle.dns_keys.specs.declared.grants.grant.Grant.{Grant}
 use Rattle.dns_names.specs.Compare.{at_or_below}
 use Rattle.dns_names.specs.Name.{DomainName}
 use Rattle.dns_tsig.specs.declared.key.Key.{Key}
 use Rattle.dns_zone.specs.Rows.{ZoneContent}
+use Rattle.nameserver_cli.specs.Ending.{IsOfInvalidValue}
+use Rattle.nameserver_cli.specs.declared.ending.Ending.{Ending}
 
 -- whether an octet is a space
 abbrev pub is_space : ℕ → Bool
@@ -42,6 +49,55 @@ permits_something keys zones grant = has_name keys grant.key.items && has_name_b
 pub record IsGrantOf (keys : List Key) (zones : List ZoneContent) (text : List ℕ) (grant : Grant) : Type 0 where
   pub stated : grant_in (words_of text) ≡ Ok (grant_value grant)
   pub permits : permits_something keys zones grant ≡ true
+
+-- why a grant permits nothing, if it does not
+abbrev pub unusable : List Key → List ZoneContent → Grant → Option (List ℕ)
+unusable keys zones grant =
+    if has_name keys grant.key.items then (if has_name_below zones grant.subtree then None else Some (codes "no zone here has this name"))
+    else Some (codes "no key file has this key")
+
+-- a text states no grant, or one that permits nothing
+pub data RefusesGrant (keys : List Key) (zones : List ZoneContent) (text : List ℕ) (ending : Ending) : Type 0 where
+  states_none : (error : GrantError) (reason : List ℕ) → error ≢ errors.Memory → grant_in (words_of text) ≡ Err error
+      → IsOfInvalidValue (codes "grant") text reason ending → RefusesGrant keys zones text ending
+  permits_nothing : (grant : Grant) (reason : List ℕ) → grant_in (words_of text) ≡ Ok (grant_value grant) → unusable keys zones grant ≡ Some reason
+      → IsOfInvalidValue (codes "grant") text reason ending → RefusesGrant keys zones text ending
+
+-- one of several texts does
+pub record RefusesOne (keys : List Key) (zones : List ZoneContent) (texts : List (List ℕ)) (ending : Ending) : Type 0 where
+  pub place : ℕ
+  pub text : List ℕ
+  pub one : slice_get texts place ≡ Some text
+  pub refused : RefusesGrant keys zones text ending
+
+-- ---- keys
+
+-- no key has the name of one of these, or of one before it
+abbrev pub AreDistinct : List Key → List Key → Type 0
+AreDistinct keys [] = ⊤
+AreDistinct keys (key ∷ more) = (has_name keys key.name.items ≡ false) × AreDistinct (keys ++ key ∷ []) more
+
+-- a key has the name of one of these, or of one before it
+pub record HasTwice (keys found : List Key) : Type 0 where
+  pub before : List Key
+  pub key : Key
+  pub after : List Key
+  pub found_are : found ≡ before ++ key ∷ after
+  pub is_known : has_name (keys ++ before) key.name.items ≡ true
+
+-- keys are added that are those of a text, at least one
+pub record AddsKeys (text : List ℕ) (old new : List Key) : Type 0 where
+  pub found : List Key
+  pub stated : IsKeyFile text (map key_value found)
+  pub some : found ≢ []
+  pub distinct : AreDistinct old found
+  pub new_are : new ≡ old ++ found
+
+-- a text is not that of keys, has none, or has one that is known
+pub data RefusesKeys (text : List ℕ) (keys : List Key) : Type 0 where
+  states_no_keys : (error : KeyFileError) → error ≢ files.Memory → IsRefused text error → RefusesKeys text keys
+  has_no_key : IsKeyFile text [] → RefusesKeys text keys
+  has_key_twice : (found : List Key) → IsKeyFile text (map key_value found) → HasTwice keys found → RefusesKeys text keys
 
 -- ---- rules of faults
 

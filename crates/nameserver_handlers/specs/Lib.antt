@@ -1,8 +1,7 @@
 pub mod Transferring
-pub mod Logged
-pub mod Durable
+pub mod Handling
+pub mod ByRules
 pub mod History
-pub mod DurableHistory
 pub mod Grants
 pub mod Clock
 pub mod Keeping

@@ -4,7 +4,7 @@ use Rattle.std.specs.Net.Socket.{socket_ip}
 use Rattle.dns_faults.specs.declared.rules.fault.Transport.{Transport}
 use Rattle.dns_faults.specs.declared.rules.fault.Transport.TheVariants as transports
 use Rattle.dns_messages.specs.Header.{peeked_metadata}
-use Rattle.dns_nameserver.specs.NameServer.{IsCoverageOf}
+use Rattle.dns_nameserver.specs.Answered.{IsCoverageOf}
 use Rattle.dns_sockets.specs.Handler.{RequestContent}
 use Rattle.dns_transfers.specs.replies.Reply.{Replies, has_authorities, has_query}
 use Rattle.dns_names.specs.declared.reverse.AddrPrefix.{AddrPrefix}

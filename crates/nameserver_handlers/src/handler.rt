@@ -1,53 +1,68 @@
-//! What the program does with requests, if it makes faults.
+//! What the program does with requests.
 
-ghost use Rattle.std.specs.Prelude.{◌≡◌, ◌⊎◌, IfOk, OnErr, None, map};
-ghost use Rattle.dns_sockets.specs.Handler.{request_content};
-ghost use Rattle.nameserver_handlers.specs.Logged.{Answers, AnswersAll, IsServed, LeavesAll, LeavesBy, serving};
+ghost use Rattle.std.specs.Prelude.{◌≡◌, IfOk, OnErr, map};
+ghost use Rattle.dns_sockets.specs.Handler.{Handled, deliveries_if, request_content};
+ghost use Rattle.nameserver_handlers.specs.ByRules.{AnswersEach, LeavesEach, Steps};
+ghost use Rattle.nameserver_handlers.specs.Handling.{keeping};
 
 use crate::host::Host;
 use crate::notices::Notices;
 use crate::request_log::RequestLog;
-use crate::transfers::{Sources, Transfers};
+use crate::settings::Settings;
+use crate::text_file::TextFile;
+use crate::transfers::Sources;
+use crate::upkeep::Upkeep;
+use dns_durable::{DurableServer, is_update};
 use dns_faults::Delivery;
-use dns_nameserver::{Answered, NameServer, reply_transport};
+use dns_faults::rules::FaultTable;
+use dns_nameserver::FormerZones;
 use dns_sockets::{Handler, Milliseconds, Notice, Request};
 use dns_transfers::replies::Recorder;
 use std::alloc::AllocError;
 use std::io::Write;
 
-/// Answers requests by a name server, and logs them.
+/// Answers requests by a server whose updates may outlast a crash, with faults on demand, and logs them.
 #[derive(Drop)]
-pub struct LoggedServer<'a, R, W> {
+pub struct RequestHandler<'a, R, S: TextFile, W> {
     /// The system.
     pub rt: &'a R,
-    /// The name server.
-    pub server: NameServer,
+    /// The zones, and the journal of their updates.
+    pub server: DurableServer<S>,
+    /// The zones from before the last update that changed records, if a rule may ask for them.
+    pub former: Option<FormerZones>,
+    /// The faults.
+    pub faults: FaultTable,
+    /// How requests are answered, and what their requestors may do.
+    pub settings: Settings,
     /// What keeps the last differences of each zone.
     pub recorder: Recorder,
-    /// To whom zones are transferred.
-    pub transfers: Transfers,
     /// The notifications of secondaries.
     pub notices: Notices,
     /// The log, if there is one.
     pub log: Option<RequestLog<W>>,
+    /// When the journal is looked after.
+    pub upkeep: Upkeep,
 }
 
-impl<R: Host, W: Write> Handler for LoggedServer<'_, R, W> {
-    ghost use Rattle.std.specs.Prelude.{false};
-    ghost use Rattle.nameserver_handlers.specs.Logged.{Steps, serving};
+impl<R: Host, S: TextFile, W: Write> Handler for RequestHandler<'_, R, S, W> {
+    ghost use Rattle.std.specs.Prelude.{◌&&◌, ◌==◌, length};
+    ghost use Rattle.dns_durable.specs.Incoming.{is_update_header};
+    ghost use Rattle.dns_messages.specs.Header.{peeked_metadata};
+    ghost use Rattle.nameserver_handlers.specs.ByRules.{Steps};
+    ghost use Rattle.nameserver_handlers.specs.Handling.{keeping};
 
-    ghost gathers_after = { λ _ _. false };
+    ghost gathers_after = { λ handler bytes.
+        (length handler.faults == 0) && is_update_header (peeked_metadata bytes) };
 
-    ghost steps = { λ old event new. Steps (serving old.server old.recorder old.transfers) event
-        (serving new.server new.recorder new.transfers) };
+    ghost steps = { λ old event new. Steps S.performs (keeping old) event (keeping new) };
 
-    /// A fault may close a connection, so that no request after it is answered.
-    fn gathers(&self, _bytes: &[u8]) -> bool {
-        false
+    /// Updates that wait one after another are written to the disk together, unless faults are made, which may close a connection.
+    fn gathers(&self, bytes: &[u8]) -> bool {
+        self.faults.is_empty() && is_update(bytes)
     }
 
     fn handle(&mut self, requests: &[Request<'_>]) -> Result<Vec<Delivery>, AllocError> {
-        self.answer_all(requests)
+        self.handle_all(requests)
     }
 
     fn transfer(
@@ -56,11 +71,12 @@ impl<R: Host, W: Write> Handler for LoggedServer<'_, R, W> {
         is_busy: bool,
     ) -> Result<Option<Vec<Vec<u8>>>, AllocError> {
         let sources = Sources {
-            zones: self.server.zones.server.zones(),
+            zones: self.server.server.zones(),
             histories: self.recorder.histories(),
-            keys: &[],
+            keys: self.settings.policy.keys.as_slice(),
         };
-        self.transfers
+        self.settings
+            .transfers
             .over_stream(self.rt, sources, request, is_busy, &mut self.log)
     }
 
@@ -68,117 +84,48 @@ impl<R: Host, W: Write> Handler for LoggedServer<'_, R, W> {
         self.notices.take_response(response)
     }
 
+    /// While a compaction is under way, there is always more to do.
     fn next_moment(&self) -> Option<Milliseconds> {
+        if self.is_compacting() {
+            return Some(0);
+        }
         self.notices.next_moment()
     }
 
+    /// Once all replies and notifications are sent, the journal is looked after, and a compaction goes on by a step.
     fn next_notice(&mut self, now: Milliseconds) -> Option<Notice> {
-        self.notices.next_notice(self.rt.alloc(), now)
+        let notice = self.notices.next_notice(self.rt.alloc(), now);
+        if notice.is_none() && (!self.upkeep.is_tended || self.is_compacting()) {
+            self.upkeep.is_tended = true;
+            self.tend_journal();
+        }
+        notice
     }
 }
 
-impl<R: Host, W: Write> LoggedServer<'_, R, W> {
-    /// Answers requests, one after another, and logs them.
-    fn answer_all(&mut self, requests: &[Request<'_>]) -> Result<Vec<Delivery>, AllocError>
-        ensures ok { IfOk result (λ deliveries. AnswersAll
-            (serving self.old.server self.old.recorder self.old.transfers)
-            (map request_content requests.now) deliveries.items
-            (serving self.new.server self.new.recorder self.new.transfers)) }
-        ensures err { OnErr result (LeavesAll
-            (serving self.old.server self.old.recorder self.old.transfers)
-            (map request_content requests.now)
-            (serving self.new.server self.new.recorder self.new.transfers)) }
+impl<R: Host, S: TextFile, W: Write> RequestHandler<'_, R, S, W> {
+    /// Handles requests that arrived together: returns what is sent for them.
+    fn handle_all(&mut self, requests: &[Request<'_>]) -> Result<Vec<Delivery>, AllocError>
+        ensures { Steps S.performs (keeping self.old)
+            (Handled (map request_content requests.now) (deliveries_if result)) (keeping self.new) }
+    {
+        if self.faults.is_empty() {
+            return self.handle_together(requests);
+        }
+        self.handle_each(requests)
+    }
+
+    /// Handles requests one after another, each by the rule that decides for it.
+    fn handle_each(&mut self, requests: &[Request<'_>]) -> Result<Vec<Delivery>, AllocError>
+        ensures ok { IfOk result (λ deliveries. AnswersEach S.performs (keeping self.old)
+            (map request_content requests.now) deliveries.items (keeping self.new)) }
+        ensures err { OnErr result (LeavesEach S.performs (keeping self.old)
+            (map request_content requests.now) (keeping self.new)) }
     {
         let mut deliveries = Vec::new(self.rt.alloc());
         for request in requests {
-            deliveries.push(self.answer(request)?)?;
+            deliveries.push(self.handle_one(request)?)?;
         }
         Ok(deliveries)
-    }
-
-    /// Answers a request, and logs it.
-    fn answer(&mut self, request: &Request<'_>) -> Result<Delivery, AllocError>
-        ensures ok { IfOk result (λ delivery. Answers
-            (serving self.old.server self.old.recorder self.old.transfers)
-            (request_content request.now) delivery
-            (serving self.new.server self.new.recorder self.new.transfers)) }
-        ensures err { OnErr result (LeavesBy
-            (serving self.old.server self.old.recorder self.old.transfers)
-            (request_content request.now)
-            (serving self.new.server self.new.recorder self.new.transfers)) }
-    {
-        let answered = self.answered(request)?;
-        self.tell(request, &answered);
-        Ok(answered.delivery)
-    }
-
-    /// Logs a request, and notifies secondaries if it has changed records.
-    fn tell(&mut self, request: &Request<'_>, answered: &Answered)
-        ensures server { self.new.server ≡ self.old.server }
-        ensures recorder { self.new.recorder ≡ self.old.recorder }
-        ensures transfers { self.new.transfers ≡ self.old.transfers }
-    {
-        if let Some(log) = &mut self.log {
-            log.append_request(self.rt, request, answered);
-        }
-        if answered.has_updated {
-            self.notices
-                .follow(self.rt, self.server.zones.server.zones(), request.moment);
-        }
-    }
-
-    /// Returns what a request leads to.
-    fn answered(&mut self, request: &Request<'_>) -> Result<Answered, AllocError>
-        ensures ok { IfOk result (λ answered. Answers
-            (serving self.old.server self.old.recorder self.old.transfers)
-            (request_content request.now) answered.delivery
-            (serving self.new.server self.new.recorder self.new.transfers)) }
-        ensures err { OnErr result (LeavesBy
-            (serving self.old.server self.old.recorder self.old.transfers)
-            (request_content request.now)
-            (serving self.new.server self.new.recorder self.new.transfers)) }
-    {
-        let sources = Sources {
-            zones: self.server.zones.server.zones(),
-            histories: self.recorder.histories(),
-            keys: &[],
-        };
-        let transport = reply_transport(request.transport, self.server.limit);
-        if let Some(reply) = self
-            .transfers
-            .by_datagram(self.rt, sources, request, transport)?
-        {
-            return Ok(Answered {
-                delivery: Delivery::plain(Some(reply)),
-                line: None,
-                has_updated: false,
-            });
-        }
-        self.recorded(request)
-    }
-
-    /// Answers a request by the name server, and records what it has changed.
-    fn recorded(&mut self, request: &Request<'_>) -> Result<Answered, AllocError>
-        ensures served { IfOk result (λ answered. IsServed
-            (serving self.old.server self.old.recorder self.old.transfers)
-            (request_content request.now) answered.delivery
-            (serving self.new.server self.new.recorder self.new.transfers)) }
-        ensures left { LeavesBy
-            (serving self.old.server self.old.recorder self.old.transfers)
-            (request_content request.now)
-            (serving self.new.server self.new.recorder self.new.transfers) }
-    {
-        let answered = self.server.answer(
-            self.rt.alloc(),
-            request.bytes,
-            request.peer.ip(),
-            request.transport,
-        );
-        // An update may have been made even if there was no memory for its reply.
-        if let Some(change) = self.server.zones.change.take() {
-            // Without memory for the difference, the history of the zone begins again.
-            let _recorded = self.recorder.record(change);
-        }
-        answered
     }
 }

@@ -1,8 +1,8 @@
 //! Keys and grants.
 
-ghost use Rattle.std.specs.Prelude.{◌≡◌, IfOk, is_none, map, string_bytes};
+ghost use Rattle.std.specs.Prelude.{◌≡◌, ◌≢◌, ◌++◌, IfErr, IfOk, OnOk, map, option_map, string_bytes};
 ghost use Rattle.std.specs.List.{AllZip};
-ghost use Rattle.nameserver_handlers.specs.Grants.{IsGrantOf, has_name, has_name_below, permits_something, words_of};
+ghost use Rattle.nameserver_handlers.specs.Grants.{AddsKeys, AreDistinct, HasTwice, IsGrantOf, RefusesGrant, RefusesKeys, RefusesOne, has_name, has_name_below, unusable, words_of};
 
 use crate::unmatched::overlaps;
 use dns_durable::{GrantError, parse_grant};
@@ -15,27 +15,52 @@ use nameserver_cli::Ending;
 use std::alloc::{AllocError, Global};
 
 /// Adds the keys of the text of the key file at a path, of which there is at least one. No two keys have the same name.
-pub fn add_keys(alloc: Global, keys: &mut Vec<Key>, path: &str, text: &[u8]) -> Result<(), Ending> {
+///
+/// # Errors
+///
+/// - [`Ending::Refused`] if the text is not that of a key file, or has no key, or one with the name of another;
+/// - [`Ending::Memory`] if memory is refused.
+pub fn add_keys(alloc: Global, keys: &mut Vec<Key>, path: &str, text: &[u8]) -> Result<(), Ending>
+    ensures ok { OnOk result (AddsKeys text.now keys.old.items keys.new.items) }
+    ensures refused { IfErr result (λ ending. ending ≢ Ending.Memory
+        → RefusesKeys text.now keys.old.items) }
+{
     match parse_keys(alloc, text) {
-        Ok(found) if found.is_empty() => refuse(alloc, path, "there is no key in this file"),
-        Ok(found) => {
-            for key in found {
-                if has_name(keys.as_slice(), &key.name) {
-                    return refuse(alloc, path, "another key has the same name");
-                }
-                keys.push(key)?;
-            }
-            Ok(())
+        Ok(found) if found.is_empty() => {
+            Err(refusal(alloc, path, "there is no key in this file"))
         }
-        // Memory was refused while the keys were read.
-        Err(KeyFileError::Memory) => Err(Ending::Memory),
-        Err(error) => Err(Ending::Refused(format!(in alloc; "{path}: {error}\n")?)),
+        Ok(found) => add_all(alloc, keys, path, found),
+        Err(error) => match error {
+            // Memory was refused while the keys were read.
+            KeyFileError::Memory => Err(Ending::Memory),
+            _ => Err(Ending::Refused(format!(in alloc; "{path}: {error}\n")?)),
+        },
     }
 }
 
-/// Refuses a key file.
-fn refuse(alloc: Global, path: &str, reason: &str) -> Result<(), Ending> {
-    Err(Ending::Refused(format!(in alloc; "{path}: {reason}\n")?))
+/// Adds keys, no two of which have the same name.
+fn add_all(alloc: Global, keys: &mut Vec<Key>, path: &str, found: Vec<Key>) -> Result<(), Ending>
+    ensures added { OnOk result (keys.new.items ≡ keys.old.items ++ found.items) }
+    ensures distinct { OnOk result (AreDistinct keys.old.items found.items) }
+    ensures refused { IfErr result (λ ending. ending ≢ Ending.Memory
+        → HasTwice keys.old.items found.items) }
+{
+    for key in found {
+        if has_name(keys.as_slice(), &key.name) {
+            return Err(refusal(alloc, path, "another key has the same name"));
+        }
+        keys.push(key)?;
+    }
+    Ok(())
+}
+
+/// Returns how the program ends if it refuses a key file.
+fn refusal(alloc: Global, path: &str, reason: &str) -> Ending {
+    match format!(in alloc; "{path}: {reason}\n") {
+        Ok(report) => Ending::Refused(report),
+        // Memory for the report was refused.
+        Err(_) => Ending::Memory,
+    }
 }
 
 /// Returns the grants of texts, each of which is for one of the keys, and for names of the zones.
@@ -45,8 +70,10 @@ pub fn grants_of(
     keys: &[Key],
     zones: &[Zone],
 ) -> Result<Vec<Grant>, Ending>
-    ensures { IfOk result (λ grants.
+    ensures ok { IfOk result (λ grants.
         AllZip (IsGrantOf keys.now zones.now) (map string_bytes texts.now) grants.items) }
+    ensures refused { IfErr result (λ ending. ending ≢ Ending.Memory
+        → RefusesOne keys.now zones.now (map string_bytes texts.now) ending) }
 {
     let mut grants = Vec::new(alloc);
     for text in texts {
@@ -57,7 +84,9 @@ pub fn grants_of(
 
 /// Returns the grant of a text, which is for one of the keys, and for names of the zones.
 fn grant_of(alloc: Global, text: &str, keys: &[Key], zones: &[Zone]) -> Result<Grant, Ending>
-    ensures { IfOk result (IsGrantOf keys.now zones.now text.now) }
+    ensures ok { IfOk result (IsGrantOf keys.now zones.now text.now) }
+    ensures refused { IfErr result (λ ending. ending ≢ Ending.Memory
+        → RefusesGrant keys.now zones.now text.now ending) }
 {
     let words = words_of(alloc, text)?;
     match parse_grant(alloc, words.as_slice()) {
@@ -65,12 +94,14 @@ fn grant_of(alloc: Global, text: &str, keys: &[Key], zones: &[Zone]) -> Result<G
             Some(reason) => Err(Ending::invalid(alloc, "grant", text, reason)),
             None => Ok(grant),
         },
-        // Memory for the grant was refused.
-        Err(GrantError::Memory) => Err(Ending::Memory),
-        Err(error) => {
-            let reason = format!(in alloc; "{error}")?;
-            Err(Ending::invalid(alloc, "grant", text, reason.as_str()))
-        }
+        Err(error) => match error {
+            // Memory for the grant was refused.
+            GrantError::Memory => Err(Ending::Memory),
+            _ => {
+                let reason = format!(in alloc; "{error}")?;
+                Err(Ending::invalid(alloc, "grant", text, reason.as_str()))
+            }
+        },
     }
 }
 
@@ -85,7 +116,7 @@ fn words_of(alloc: Global, text: &str) -> Result<Vec<&str>, AllocError>
 
 /// Returns why a grant permits nothing: none of the keys has its name, or none of the zones a name of its subtree.
 fn unusable(grant: &Grant, keys: &[Key], zones: &[Zone]) -> Option<&'static str>
-    ensures { is_none result ≡ permits_something keys.now zones.now grant.now }
+    ensures { option_map (λ text. text.now) result ≡ unusable keys.now zones.now grant.now }
 {
     if !has_name(keys, &grant.key) {
         return Some("no key file has this key");

@@ -1,7 +1,7 @@
 //! Transfers of zones.
 
 ghost use Rattle.std.specs.Prelude.{◌≡◌, ◌&&◌, not, Bool, IfOk, option_map};
-ghost use Rattle.dns_nameserver.specs.NameServer.{IsCoverageOf};
+ghost use Rattle.dns_nameserver.specs.Answered.{IsCoverageOf};
 ghost use Rattle.dns_sockets.specs.Handler.{message_bytes, messages_of, request_content};
 ghost use Rattle.dns_transfers.specs.replies.Reply.{Replies};
 ghost use Rattle.dns_zone.specs.declared.transport.Transport.TheVariants as transports;

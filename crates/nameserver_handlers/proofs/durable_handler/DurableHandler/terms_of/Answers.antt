@@ -1,6 +1,0 @@
-use Rattle.nameserver_handlers.proofs.DurableLaws.{terms_more}
-use Rattle.nameserver_handlers.proofs.durable_handler.DurableHandler.terms_of.Goals as goal
-
-pub loop-request-preserved : goal.loop-request-preserved
-loop-request-preserved g c =
-    terms_more c.args.self.now.limit c.args.self.now.updaters c.args.requests.now c.loop-request.request-index _ c.loop-request.terms.items c.push.new.self.items _ c.loop-request-test.true c.in_ok-push.ensures.items c.loop-request.invariant c.terms.ensures

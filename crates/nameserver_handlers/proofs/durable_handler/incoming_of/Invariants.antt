@@ -1,8 +1,0 @@
--- The first requests are there, with their terms.
-use Rattle.std.proofs.Common.{map, take}
-use Rattle.dns_sockets.specs.Handler.{request_content}
-use Rattle.nameserver_handlers.specs.Durable.{AreIncoming}
-use Rattle.nameserver_handlers.proofs.durable_handler.incoming_of.Given as goal
-
-abbrev pub invariant-loop-index : goal.invariant-loop-index
-invariant-loop-index l = AreIncoming (map request_content (take l.index l.requests)) (take l.index l.terms) l.incoming.items
