@@ -3,6 +3,7 @@ from collections import namedtuple
 
 from compacted import compacted
 from damaged import damaged, together
+from faulty import faulty
 from keys import grants, keys, modes
 from kills import damage, disk, kills
 from mutations import mutations
@@ -18,6 +19,7 @@ PARTS = {
     "keys": keys,
     "grants": grants,
     "modes": modes,
+    "faulty": faulty,
     "mutations": mutations,
     "damage": damage,
     "damaged": damaged,

@@ -27,6 +27,8 @@ CODES = {
     8: "NXRRSet", 9: "NotAuth", 10: "NotZone",
 }  # fmt: skip
 STREAM_LIMIT, OWN_PAYLOAD, MOST_ALIASES = 65535, 1232, 7
+# The type of signatures, and the error of a key that is not known (RFC 8945 sections 4.2 and 3).
+TSIG, BAD_KEY = 250, 17
 # What the encoder does at most: names that it compresses, suffixes that it remembers, and the offset below which it does.
 MOST_NAMES, MOST_SUFFIXES, SUFFIX_END = 120, 64, 0x3FFF
 LOOPBACK = [(b"localhost",), (b"127", b"in-addr", b"arpa"), (b"1", *(b"0",) * 31, b"ip6", b"arpa")]
@@ -352,8 +354,30 @@ def encoded(request: Request, question: Optional[Question], answer: Answer, limi
     return bytes(out.data)
 
 
+def signature_code(request: Request) -> int:
+    """What a server without keys makes of the TSIG records of a request (RFC 8945 sections 5.1 and 5.2), as BIND does."""
+    records = [it for section in request.sections for it in section]
+    signatures = [it for it in records if it.rtype == TSIG]
+    if not signatures:
+        return NO_ERROR
+    if len(signatures) > 1 or records[-1] is not signatures[0] or not request.sections[2] or not signatures[0].data:
+        return FORM_ERR
+    return NOT_AUTH
+
+
+def with_bad_key(request: Request, reply: bytes) -> bytes:
+    """A reply with the TSIG record that says that the key of the request is not known: with its name, algorithm, time and fudge."""
+    record = request.sections[2][-1]
+    at = Reader(record.data[0])
+    algorithm, time, fudge = at.name(), at.take(6), at.take(2)
+    data = whole_form(lower(algorithm)) + time + fudge + bytes(2) + reply[:2] + BAD_KEY.to_bytes(2, "big") + bytes(2)
+    count = int.from_bytes(reply[10:12], "big") + 1
+    fields = TSIG.to_bytes(2, "big") + ANY.to_bytes(2, "big") + bytes(4) + len(data).to_bytes(2, "big")
+    return reply[:10] + count.to_bytes(2, "big") + reply[12:] + whole_form(lower(record.owner)) + fields + data
+
+
 class Server:
-    """Zones, and how the program was told to serve them."""
+    """Zones, and how the program was told to serve them. It has no keys."""
 
     def __init__(self, zones: List[Zone], limit: int = OWN_PAYLOAD, takes_updates: bool = True):
         self.zones, self.limit, self.takes_updates = zones, limit, takes_updates
@@ -375,6 +399,11 @@ class Server:
         if request.flags & 0x8000:
             return None
         limit = STREAM_LIMIT if is_stream else min(self.limit, max(512, request.edns[0] if request.edns else 0))
+        code = signature_code(request)
+        if code:
+            only = request.questions[0] if request.opcode == 0 and len(request.questions) == 1 else None
+            reply = encoded(request, only, Answer(code), limit)
+            return with_bad_key(request, reply) if code == NOT_AUTH else reply
         question, answer = self.answer(request)
         return encoded(request, question, answer, limit)
 
