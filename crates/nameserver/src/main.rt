@@ -161,7 +161,7 @@ fn run_server(
     let log = open_log(rt, &arguments)?;
     let notices = Notices::new(rt, zones, arguments.notify.as_slice())?;
     let recorder = recorder_of(rt.alloc(), zones, arguments.kept_differences())?;
-    let upkeep = Upkeep::from(arguments.durable.journal_limit);
+    let upkeep = Upkeep::new(arguments.durable.journal_limit);
     let policy = read_policy(rt, &arguments, zones)?;
     let source = Source::open(rt, &arguments, part)?;
     let settings = settings_of(arguments, policy, source.clock());

@@ -217,11 +217,12 @@ pub delivered_as : {S : Type 0} (k k2 : Keeping S) (r : RequestContent) (reply :
 delivered_as {S} k k2 r reply d same delivered = subst (λ (x : Keeping S). IsDelivered (kept_content x) x.settings.transfers x.settings.limit r reply d) same delivered
 
 module _ {S : Type 0} (performs : S → Event → S → Type 0) (old mid new : Keeping S) where
-  -- one request is answered
-  pub together_one : (r : RequestContent) (d : Delivery) (reply : Option (List ℕ)) → new ≡ mid → Serves performs old (r ∷ []) (Some (reply ∷ [])) mid
-      → IsDelivered (kept_content mid) mid.settings.transfers mid.settings.limit r reply d → AnswersTogether performs old (r ∷ []) (d ∷ []) new
-  together_one r d reply same serves delivered =
+  -- one request is answered, or memory is refused for its delivery
+  pub together_one : (r : RequestContent) (result : Result Delivery AllocError) (reply : Option (List ℕ)) → new ≡ mid → Serves performs old (r ∷ []) (Some (reply ∷ [])) mid
+      → IfOk result (λ d. IsDelivered (kept_content mid) mid.settings.transfers mid.settings.limit r reply d) → IfOk result (λ d. AnswersTogether performs old (r ∷ []) (d ∷ []) new)
+  together_one r (Ok d) reply same serves delivered =
       subst (λ (k : Keeping S). AnswersTogether performs old (r ∷ []) (d ∷ []) k) (sym same) (record { replies = reply ∷ []; serves = serves; delivered = (delivered, refl) })
+  together_one r (Err error) reply same serves delivered = tt
 
   -- several are
   pub together_all : (rs : List RequestContent) (ds : List Delivery) (replies : List (Option (List ℕ))) → new ≡ mid → Serves performs old rs (Some replies) mid

@@ -188,13 +188,15 @@ abbrev pub LeavesWith : {S : Type 0} → (S → Event → S → Type 0) → List
 LeavesWith performs [] old rs new = LeavesTogether performs old rs new
 LeavesWith performs (rule ∷ rules) old rs new = LeavesEach performs old rs new
 
--- What is left once a notification is given, or there is none: the journal may be begun anew then, if there is one.
+-- What is left once a notification is given, or there is none: the journal may be begun anew then, if there is one. Without one, the zones
+-- stay, and updates are taken as before.
 pub record IsTended {S : Type 0} (old new : Keeping S) : Type 0 where
   pub settings : new.settings ≡ old.settings
   pub faults : new.faults ≡ old.faults
   pub former : new.former ≡ old.former
   pub recorder : new.recorder ≡ old.recorder
   pub zones : old.settings.has_journal ≡ false → new.zones ≡ old.zones
+  pub position : old.settings.has_journal ≡ false → new.position ≡ old.position
 
 -- What the handler does. Where memory is refused, there are no replies, and updates may have been made.
 abbrev pub Steps : {S : Type 0} → (S → Event → S → Type 0) → Keeping S → HandlerEvent → Keeping S → Type 0

@@ -1,5 +1,5 @@
 -- What a name server answers that keeps a journal, keys and a fault table.
-use Rattle.std.specs.Prelude.{◌≡◌, ◌⊎◌, ◌++◌, Bool, true, false, List, [], ◌∷◌, ℕ, is_none, map, option_map, Option, Some, None, Result, Ok, Err}
+use Rattle.std.specs.Prelude.{◌≡◌, ◌⊎◌, Bool, true, false, List, [], ◌∷◌, ℕ, is_none, map, option_map, Option, Some, None, Result, Ok, Err}
 use Rattle.std.specs.Global.{Vec}
 use Rattle.std.specs.declared.alloc.AllocError.{AllocError}
 use Rattle.std.specs.Net.Socket.{socket_ip}
@@ -14,6 +14,7 @@ use Rattle.dns_faults.specs.declared.rules.table.CountedRule.{CountedRule}
 use Rattle.dns_journal.specs.Event.{Event}
 use Rattle.dns_journal.specs.Storage.{Performs}
 use Rattle.dns_journal.specs.declared.journal.Position.{Position}
+use Rattle.dns_journal.specs.declared.journal.State.TheVariants as states
 use Rattle.dns_messages.specs.Grammar.{ReadsMessage}
 use Rattle.dns_messages.specs.declared.message.Message.{Message}
 use Rattle.dns_names.specs.declared.reverse.AddrPrefix.{AddrPrefix}
@@ -155,13 +156,29 @@ abbrev pub ForgetsIf : Bool → Recorder → Recorder → Type 0
 ForgetsIf false old new = new ≡ old
 ForgetsIf true old new = AreForgotten old.histories.items new.histories.items
 
--- The same but for the storage, whose error was told. Where memory was refused, no difference is known any more.
+-- the zones from before the last update are as they were, or are not known any more
+abbrev pub FormerIf : Bool → Option Former → Option Former → Type 0
+FormerIf false old new = new ≡ old
+FormerIf true old new = new ≡ None
+
+-- the position in a journal, or that of a server without one, which takes updates again
+abbrev pub position_again : Bool → Position → Position
+position_again true p = p
+position_again false p = record p { state = states.Ready }
+
+-- the same where memory was refused
+abbrev pub PositionIf : Bool → Bool → Position → Position → Type 0
+PositionIf false has_journal old new = new ≡ old
+PositionIf true has_journal old new = new ≡ position_again has_journal old
+
+-- The same but for the storage, whose error was told. Where memory was refused, neither differences nor the zones from before the last
+-- update are known any more, and a server without a journal takes updates again.
 pub record IsSettled {S : Type 0} (is_refused : Bool) (old new : Keeping S) : Type 0 where
-  pub position : new.position ≡ old.position
+  pub position : PositionIf is_refused old.settings.has_journal old.position new.position
   pub zones : new.zones ≡ old.zones
   pub settings : new.settings ≡ old.settings
   pub recorder : ForgetsIf is_refused old.recorder new.recorder
-  pub former : new.former ≡ old.former
+  pub former : FormerIf is_refused old.former new.former
   pub faults : new.faults ≡ old.faults
 
 -- requests are served by their terms, up to a state of the storage

@@ -71,6 +71,7 @@ impl<R: Host, S: TextFile, W: Write> RequestHandler<'_, R, S, W> {
             (request_content request.now ∷ []) (keeping self.new)) }
     {
         let Recorded { reply, has_updated } = self.serve_by(request, decided)?;
+        self.notify(has_updated, request.moment);
         let fault = &decided.decision.fault;
         let id = decided.request.metadata.id;
         let reply = self.edited(request, fault, id, reply)?;
@@ -81,7 +82,6 @@ impl<R: Host, S: TextFile, W: Write> RequestHandler<'_, R, S, W> {
             has_updated,
         };
         self.append_log(request, &answered);
-        self.notify(has_updated, request.moment);
         Ok(answered.delivery)
     }
 

@@ -18,8 +18,8 @@ use dns_sockets::World;
 use std::io::Write;
 
 /// Each datagram that a service sends, and that the system takes, is what its server answered to a request that the same peer had sent
-/// to the same socket, in the state to which everything before had led; or it is a notification. Premise: no reply waits when the service
-/// begins.
+/// to the same socket, in a state to which everything before may have led; or a datagram without a request, as a notification is. Premise:
+/// no reply waits when the service begins.
 pub fn every_datagram_is_an_answer<D: World, R: Host, S: TextFile, W: Write>()
     ensures { (world new : D) (old after : RequestHandler R S W) (before rest : List Act)
         (socket : ℕ) (bytes : List ℕ) (peer : SocketAddr) (left : List (Waiting WaitingReply))

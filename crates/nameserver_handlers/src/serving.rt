@@ -8,7 +8,7 @@ ghost use Rattle.dns_server.specs.Maintaining.{IsRecordableOf};
 ghost use Rattle.dns_sockets.specs.Handler.{message_bytes, request_content};
 ghost use Rattle.dns_transfers.specs.replies.Recording.{AreHistoriesOf};
 ghost use Rattle.dns_zone.specs.Rows.{ZoneContent};
-ghost use Rattle.nameserver_handlers.specs.Handling.{AnswersTogether, AreDelivered, AreIncoming, AreTerms, Follows, FollowsIf, FollowsOne, first_bytes, others_of, IsDelivered, IsSettled, IsTerms, LeavesTogether, Responded, Serves, keeping, kept_content, one_if, or_else, recorded_bytes, recorded_if};
+ghost use Rattle.nameserver_handlers.specs.Handling.{AnswersTogether, AreDelivered, AreIncoming, AreTerms, Follows, FollowsIf, FollowsOne, first_bytes, others_of, IsDelivered, IsSettled, IsTerms, LeavesTogether, Responded, Serves, keeping, kept_content, one_if, or_else, position_again, recorded_bytes, recorded_if};
 ghost use Rattle.nameserver_handlers.specs.Transferring.{TransferByDatagram};
 
 use crate::handler::RequestHandler;
@@ -17,6 +17,7 @@ use crate::text_file::TextFile;
 use crate::transfers::Sources;
 use dns_durable::{Incoming, Reply, Terms};
 use dns_faults::Delivery;
+use dns_journal::State;
 use dns_messages::Message;
 use dns_messages::laws::decoded_messages_are_sound;
 use dns_nameserver::{Answered, FormerZones, has_changed, reply_transport, updates_of};
@@ -71,10 +72,8 @@ impl<R: Host, S: TextFile, W: Write> RequestHandler<'_, R, S, W> {
             (request_content request.now ∷ []) (keeping self.new)) }
     {
         let recorded = self.serve_one(request)?;
-        let has_updated = recorded.has_updated;
-        let delivery = self.logged(request, recorded)?;
-        self.notify(has_updated, request.moment);
-        Ok(delivery)
+        self.notify(recorded.has_updated, request.moment);
+        self.logged(request, recorded)
     }
 
     /// Handles requests that arrived together, without a fault: returns what is sent for them.
@@ -135,17 +134,31 @@ impl<R: Host, S: TextFile, W: Write> RequestHandler<'_, R, S, W> {
         }
     }
 
-    /// Tells a failure of the journal, and has it looked after once all replies are sent. Where memory was refused, no differences are
-    /// known any more.
+    /// Tells a failure of the journal, and has it looked after once all replies are sent. Where memory was refused, neither differences nor
+    /// the zones from before the last update are known any more, and a server without a journal takes updates again.
     fn settle(&mut self, is_refused: bool)
         ensures { IsSettled is_refused (keeping self.old) (keeping self.new) }
     {
         if is_refused {
             // Updates may have been made whose changes are not known.
             self.recorder.forget();
+            self.former = None;
+            self.take_updates_again();
         }
         self.tell_failure();
         self.upkeep.is_tended = false;
+    }
+
+    /// Lets a server without a journal take updates again: nothing is on a disk that its zones may lack.
+    fn take_updates_again(&mut self)
+        ensures { keeping self.new ≡ record (keeping self.old) {
+          position = position_again self.old.settings.has_journal
+              self.old.server.journal.position;
+        } }
+    {
+        if !self.settings.has_journal {
+            self.server.journal.position.state = State::Ready;
+        }
     }
 
     /// Returns the replies to requests with their terms, and records what these have changed.
@@ -247,7 +260,7 @@ impl<R: Host, S: TextFile, W: Write> RequestHandler<'_, R, S, W> {
         }
     }
 
-    /// Logs requests with their replies, notifies secondaries if one has changed records, and returns what is sent.
+    /// Notifies secondaries if a request has changed records, logs requests with their replies, and returns what is sent.
     fn deliver(
         &mut self,
         requests: &[Request<'_>],
@@ -259,11 +272,10 @@ impl<R: Host, S: TextFile, W: Write> RequestHandler<'_, R, S, W> {
         ensures kept { keeping self.new ≡ keeping self.old }
     {
         let has_updated = replies.iter().any(|recorded| recorded.has_updated);
-        let deliveries = self.deliver_all(requests, replies)?;
         if let Some(last) = requests.last() {
             self.notify(has_updated, last.moment);
         }
-        Ok(deliveries)
+        self.deliver_all(requests, replies)
     }
 
     /// Notifies secondaries if records have changed.

@@ -28,8 +28,8 @@ pub struct Upkeep {
 }
 
 impl Upkeep {
-    /// Begins the journal anew once it has a length, in bytes.
-    pub fn from(journal_limit: usize) -> Upkeep
+    /// Creates the state of a journal that is begun anew from this length on, in bytes.
+    pub fn new(journal_limit: usize) -> Upkeep
         ensures { result ≡ record {
           journal_limit = journal_limit;
           retry_limit = 0;
