@@ -1,5 +1,5 @@
 -- Replies that no zone decides.
-use Rattle.std.proofs.Common.{◌≡◌, ◌<◌, ◌≤◌, ℕ, List, [], ◌∷◌, sym, ap, ◌∙◌, subst, length, arith}
+use Rattle.std.proofs.Common.{◌≡◌, true, ◌<◌, ◌≤◌, ℕ, List, [], ◌∷◌, sym, ap, ◌∙◌, subst, length, arith}
 use Rattle.std.specs.List.{AllByRecursion}
 use Rattle.dns_wire.specs.Name.{name_len}
 use Rattle.dns_wire.specs.Encodable.{Plain, start_position}
@@ -12,6 +12,7 @@ use Rattle.dns_messages.specs.declared.response_code.ResponseCode.{ResponseCode}
 use Rattle.dns_messages.specs.Header.{code_number, code_of}
 use Rattle.dns_messages.specs.Encoding.{Encodes}
 use Rattle.dns_messages.specs.Cut.{cut, cut_form, front_reach, twelve_zeros, queries_pieces}
+use Rattle.dns_messages.specs.Message.{truncated}
 use Rattle.dns_messages.specs.Sound.{IsSound, IsSoundQuery}
 use Rattle.dns_messages.specs.Grammar.{ReadsMessage}
 use Rattle.dns_zone.specs.Answer.{bare}
@@ -77,6 +78,30 @@ without_sound m code fits named request =
       extended = b.extended;
       signature = tt;
     }
+
+-- ---- the same with TC
+
+-- the message with TC
+abbrev pub with_truncation : Message → Message
+with_truncation m = record m { metadata = record m.metadata { truncation = true } }
+
+pub truncated_sound : (m : Message) → IsSound m → IsSound (truncated m)
+truncated_sound m s = record {
+  metadata = record {
+    id_fits = s.metadata.id_fits;
+    op_fits = s.metadata.op_fits;
+    op_named = s.metadata.op_named;
+    code_fits = s.metadata.code_fits;
+    code_named = s.metadata.code_named;
+  };
+  queries = s.queries;
+  answers = tt;
+  authorities = tt;
+  additionals = tt;
+  edns = s.edns;
+  extended = s.extended;
+  signature = tt;
+}
 
 -- the reply that borrows the questions of a request and has an answer without records
 pub is_without : (m : Message) (code : ResponseCode) (queries : List Query) (a : AnswerRef) → queries ≡ repeated_queries m → borrowed_answer a ≡ bare code

@@ -23,5 +23,6 @@ pub use sets::{SetEntries, Sets};
 pub use transport::{DatagramLimit, LimitTooSmall, Transport, Transport as Road};
 pub use zone::{
     Answer, Applied, Node, RecordLines, Serials, Served, Zone, ZoneFault, bare_reply_bytes,
-    decode_request, first_serial, repeated_queries, reply_limit, zone_serial,
+    decode_request, first_serial, repeated_queries, reply_limit, truncated_reply_bytes,
+    zone_serial,
 };

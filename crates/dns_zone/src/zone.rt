@@ -28,7 +28,9 @@ use dns_zone_file::ZoneFileError;
 pub use node::Node;
 pub use serial::{first_serial, zone_serial};
 pub use serials::Serials;
-pub use serve::{Served, bare_reply_bytes, decode_request, repeated_queries, reply_limit};
+pub use serve::{
+    Served, bare_reply_bytes, decode_request, repeated_queries, reply_limit, truncated_reply_bytes,
+};
 use std::alloc::{AllocError, AllocFailed, Global};
 use std::marker::Model;
 use thiserror::Error;

@@ -1,8 +1,8 @@
 //! The replies of a zone's server (RFC 1035 section 4.1, RFC 6891 sections 6 and 7).
 
-ghost use Rattle.std.specs.Prelude.{◌≡◌, Some, IfOk, OnOk, Err};
+ghost use Rattle.std.specs.Prelude.{◌≡◌, true, Some, IfOk, OnOk, Err};
 ghost use Rattle.dns_wire.specs.Encoder.{state_of};
-ghost use Rattle.dns_messages.specs.Cut.{IsFresh};
+ghost use Rattle.dns_messages.specs.Cut.{front_reach, IsFresh};
 ghost use Rattle.dns_messages.specs.Encoding.{Encodes, IsTooLong};
 ghost use Rattle.dns_zone.specs.Section.{borrowed_answer};
 ghost use Rattle.dns_zone.specs.Serving.{bare_reply, borrowed_reply, has_authority, reply_edns, reply_metadata};
@@ -44,6 +44,18 @@ impl<'a> ReplyRef<'a> {
             answer,
             edns: edns_of_reply(alloc, &request.edns),
         }
+    }
+
+    /// Returns the reply with TC (RFC 1035 section 4.1.1). Its records stay.
+    pub(crate) fn with_truncation(self) -> ReplyRef<'a>
+        ensures reply { borrowed_reply result ≡ record (borrowed_reply self.entry) {
+          metadata = record (borrowed_reply self.entry).metadata { truncation = true };
+        } }
+        ensures front { front_reach (borrowed_reply result) ≡ front_reach (borrowed_reply self.entry) }
+    {
+        let mut reply = self;
+        reply.metadata.truncation = true;
+        reply
     }
 
     /// Writes the reply at the start of an encoder, as much of it as fits (RFC 1035 section 4.2.1).

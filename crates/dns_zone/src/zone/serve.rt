@@ -7,8 +7,10 @@ ghost use Rattle.dns_zone.specs.Request.{DecodesRequest, IsEncodedReply, reply_w
 ghost use Rattle.std.specs.List.{AllByRecursion};
 ghost use Rattle.dns_wire.specs.Name.{name_len};
 ghost use Rattle.dns_messages.specs.declared.response_code.ResponseCode.{ResponseCode};
+ghost use Rattle.dns_messages.specs.declared.response_code.ResponseCode.TheVariants as codes;
 ghost use Rattle.dns_messages.specs.Cut.{front_reach};
 ghost use Rattle.dns_messages.specs.Header.{code_number, code_of};
+ghost use Rattle.dns_messages.specs.Message.{truncated};
 ghost use Rattle.dns_messages.specs.Sound.{IsSound};
 
 use crate::transport::Transport;
@@ -213,6 +215,26 @@ pub fn bare_reply_bytes(
 {
     let owner = Name::root(alloc);
     let reply = without_zone(alloc, request, &owner, code);
+    match reply.to_vec_within(alloc, reply_limit(transport, request)) {
+        Ok(out) => Ok(out),
+        // The memory for the reply's bytes was refused.
+        Err(EncodeError::Memory) => Err(AllocError),
+        Err(EncodeError::MaxBufferSizeExceeded) => unreachable!(),
+    }
+}
+
+/// Returns the bytes of the reply to a request whose whole reply has no room beside its signature: it has TC, the response code
+/// `NoError` and no records, and repeats the question of a query that has exactly one (RFC 8945 section 5.3).
+pub fn truncated_reply_bytes(
+    alloc: Global,
+    request: &Message,
+    transport: Transport,
+) -> Result<Vec<u8>, AllocError>
+    ensures { IfOk result (λ out. IsSound request.now → IsEncodedReply
+        (truncated (reply_without_zone request.now codes.NoError)) transport request.now out.items) }
+{
+    let owner = Name::root(alloc);
+    let reply = without_zone(alloc, request, &owner, ResponseCode::NoError).with_truncation();
     match reply.to_vec_within(alloc, reply_limit(transport, request)) {
         Ok(out) => Ok(out),
         // The memory for the reply's bytes was refused.
