@@ -8,6 +8,7 @@ pub mod Policy
 pub mod Replay
 pub mod Reply
 pub mod Rule
+pub mod Signed
 pub mod Storing
 pub mod recovery
 pub mod zone_texts

@@ -3,7 +3,6 @@ use Rattle.std.specs.Prelude.{◌≡◌, ℕ, Bool, true, false, if◌then◌els
 use Rattle.dns_messages.specs.declared.message.Message.{Message}
 use Rattle.dns_messages.specs.declared.response_code.ResponseCode.{ResponseCode}
 use Rattle.dns_messages.specs.declared.response_code.ResponseCode.TheVariants as codes
-use Rattle.dns_tsig.specs.Reply.{IsReply}
 use Rattle.dns_zone.specs.declared.transport.Transport.{Transport}
 use Rattle.dns_zone.specs.Request.{IsEncodedReply, reply_without_zone}
 use Rattle.dns_zone.specs.Rows.{ZoneContent}
@@ -11,6 +10,7 @@ use Rattle.dns_authority.specs.service.Answering.{IsReplyToOther, IsServiceReply
 use Rattle.dns_authority.specs.declared.service.answering.Answering.{Answering}
 use Rattle.dns_durable.specs.Incoming.{is_change}
 use Rattle.dns_durable.specs.Rule.{step_of}
+use Rattle.dns_durable.specs.Signed.{IsSignedWithin}
 use Rattle.dns_durable.specs.declared.incoming.Admitted.{Admitted}
 use Rattle.dns_durable.specs.declared.incoming.Arrived.{Arrived}
 use Rattle.dns_durable.specs.declared.incoming.Arrived.TheVariants.{Request, Other}
@@ -54,13 +54,12 @@ pub record IsPlainReply (answering : Answering) (stored : Bool) (zones after : L
   pub after_is : after ≡ zones_left answering stored zones (Request a)
   pub replied : IsReplyBut (is_unstored stored a) answering a.admission zones a.incoming.terms.now.transport a.message out
 
--- the reply to a request, which is signed if the request is
+-- the reply to a request, which is signed if the request is, within the size that this asks for
 pub record IsSignedReply (policy : Policy) (stored : Bool) (zones after : List ZoneContent) (a : Admitted)
     (out : List ℕ) : Type 0 where
   pub plain : List ℕ
-  pub code : List ℕ
   pub replied : IsPlainReply policy.answering stored zones after a plain
-  pub signed : IsReply policy.keys.items a.checked.found a.checked.verdict a.incoming.terms.now.time plain code out
+  pub signed : IsSignedWithin policy.keys.items a.checked a.incoming.terms.now a.message plain out
 
 -- each request has a reply; bytes that are not one have none, or FormErr, and change nothing
 abbrev pub AnswersOne : Policy → Bool → List ZoneContent → List ZoneContent → Arrived → Option (List ℕ) → Type 0

@@ -13,10 +13,10 @@ ghost use Rattle.dns_durable.specs.Rule.{step_of};
 
 use crate::incoming::{Admitted, Arrived};
 use crate::policy::{Admission, Policy};
+use crate::signing::sign_within;
 use dns_authority::service::Answering;
 use dns_messages::{Message, ResponseCode};
 use dns_server::{Served, Server, ZoneChange};
-use dns_tsig::sign_reply;
 use dns_zone::{Transport, bare_reply_bytes};
 use std::alloc::{AllocError, Global};
 
@@ -94,7 +94,7 @@ fn answer(
     }
 }
 
-/// Answers a request by a reply that is signed if the request is.
+/// Answers a request by a reply that is signed if the request is, within the size that this asks for.
 fn signed_reply(
     server: &mut Server,
     alloc: Global,
@@ -116,18 +116,15 @@ fn signed_reply(
         is_stored,
         admitted,
     )?;
-    let mut reply = reply;
-    match sign_reply(
+    let reply = sign_within(
         alloc,
         policy.keys.as_slice(),
         &admitted.checked,
-        &mut reply,
-        admitted.incoming.terms.time,
-    ) {
-        Ok(_code) => Ok(Served { reply, change }),
-        // Memory for the signature was refused: the reply has a header and room for a record, and its key is there.
-        Err(_) => Err(AllocError),
-    }
+        &admitted.message,
+        admitted.incoming.terms,
+        reply,
+    )?;
+    Ok(Served { reply, change })
 }
 
 /// Serves a request, or refuses it.

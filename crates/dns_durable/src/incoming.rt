@@ -31,8 +31,8 @@ pub struct Terms {
 }
 
 impl Terms {
-    /// Returns the transport.
-    pub(crate) fn transport(&self) -> Transport
+    /// Returns the transport, with its limit.
+    pub fn transport(&self) -> Transport
         ensures { result ≡ self.now.transport }
     {
         match self.transport {

@@ -6,6 +6,7 @@
 //!
 //! - `policy`: keys, grants, and what they make of a request; `grant_text`: grants from words;
 //! - `incoming`: requests are decoded and verified; `storing`: their updates are appended; `answering`: they are served and answered;
+//!   `signing`: replies are signed, within the sizes that their requests ask for;
 //!   `durable_server`: all of this; `rule`: by which rule updates are made; `replaying`: those of a journal are served again;
 //!   `compaction`: the text of a zone takes the place of its journal; `draft`: that text is written in steps while the zone changes;
 //!   `drafting`: a server does so;
@@ -29,6 +30,7 @@ mod policy;
 pub mod recovery;
 mod replaying;
 mod rule;
+mod signing;
 mod storing;
 pub mod zone_texts;
 
@@ -41,3 +43,4 @@ pub use grant_text::parse_grant;
 pub use incoming::{Admitted, Arrived, Incoming, Terms, is_update};
 pub use policy::{Admission, Policy, admission_of};
 pub use replaying::{FirstFrame, first_frame, replay};
+pub use signing::{sign, sign_within};
