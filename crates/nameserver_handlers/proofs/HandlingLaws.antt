@@ -22,7 +22,6 @@ use Rattle.dns_faults.specs.declared.delivery.Delivery.{Delivery}
 use Rattle.dns_journal.specs.Event.{Event}
 use Rattle.dns_journal.specs.Storage.{Performs}
 use Rattle.dns_journal.specs.declared.journal.Position.{Position}
-use Rattle.dns_names.specs.declared.reverse.AddrPrefix.{AddrPrefix}
 use Rattle.dns_nameserver.specs.Former.{Former, has_changed}
 use Rattle.dns_server.specs.Maintaining.{IsRecordableOf}
 use Rattle.dns_server.specs.declared.server.ZoneChange.{ZoneChange}
@@ -32,24 +31,25 @@ use Rattle.dns_transfers.specs.declared.replies.zone_history.ZoneHistory.{ZoneHi
 use Rattle.dns_transfers.specs.replies.Recording.{AreHistoriesOf}
 use Rattle.dns_zone.specs.Rows.{ZoneContent}
 use Rattle.nameserver_handlers.specs.Transferring.{Content}
+use Rattle.nameserver_handlers.specs.declared.settings.Settings.{Settings}
 use Rattle.nameserver_handlers.specs.declared.transfers.Transfers.{Transfers}
-use Rattle.nameserver_handlers.specs.Handling.{AnswersTogether, AreDelivered, AreIncoming, AreLeft, AreServed, AreTerms, Follows, FollowsIf, IsDelivered, IsSettled, IsTerms, Keeping, KeepsHistories, LeavesTogether, Responded, Serves, first_bytes, kept_content, one_if, others_of, recorded_bytes, recorded_if}
+use Rattle.nameserver_handlers.specs.Handling.{AnswersTogether, AreDelivered, AreIncoming, AreLeft, AreServed, AreTerms, Follows, FollowsIf, IsDelivered, IsSettled, IsTerms, Keeping, KeepsHistories, LeavesTogether, Responded, Serves, ServesWith, first_bytes, kept_content, one_if, others_of, recorded_bytes, recorded_if}
 use Rattle.nameserver_handlers.specs.declared.serving.Recorded.{Recorded}
 
-terms_then : (limit : ℕ) (updaters : List AddrPrefix) (rs : List RequestContent) (r : RequestContent) (ts : List Terms) (t : Terms) → AreTerms limit updaters rs ts → IsTerms limit updaters r t
-    → AreTerms limit updaters (rs ++ r ∷ []) (ts ++ t ∷ [])
-terms_then limit updaters [] r ts t all one = subst (λ (before : List Terms). AreTerms limit updaters (r ∷ []) (before ++ t ∷ [])) (sym all) (one, refl)
-terms_then limit updaters (q ∷ rs) r [] t all one = absurd all
-terms_then limit updaters (q ∷ rs) r (s ∷ ts) t all one = (all.0, terms_then limit updaters rs r ts t all.1 one)
+terms_then : (settings : Settings) (rs : List RequestContent) (r : RequestContent) (ts : List Terms) (t : Terms) → AreTerms settings rs ts → IsTerms settings r t
+    → AreTerms settings (rs ++ r ∷ []) (ts ++ t ∷ [])
+terms_then settings [] r ts t all one = subst (λ (before : List Terms). AreTerms settings (r ∷ []) (before ++ t ∷ [])) (sym all) (one, refl)
+terms_then settings (q ∷ rs) r [] t all one = absurd all
+terms_then settings (q ∷ rs) r (s ∷ ts) t all one = (all.0, terms_then settings rs r ts t all.1 one)
 
 -- one more request has its terms
-pub terms_more : (limit : ℕ) (updaters : List AddrPrefix) (requests : List Request) (i : ℕ) (default : Request) (ts more : List Terms) (t : Terms) → i < length requests → more ≡ ts ++ t ∷ []
-    → AreTerms limit updaters (map request_content (take i requests)) ts → IsTerms limit updaters (request_content (get_or requests i default)) t
-    → AreTerms limit updaters (map request_content (take (i + 1) requests)) more
-terms_more limit updaters requests i default ts more t below is all one =
-    subst (λ (all : List Terms). AreTerms limit updaters (map request_content (take (i + 1) requests)) all) (sym is)
-    (subst (λ (rs : List RequestContent). AreTerms limit updaters rs (ts ++ t ∷ [])) (sym (ap (map request_content) (take_more requests i default below) ∙ map-append request_content (take i requests) (get_or requests i default ∷ [])))
-    (terms_then limit updaters (map request_content (take i requests)) (request_content (get_or requests i default)) ts t all one))
+pub terms_more : (settings : Settings) (requests : List Request) (i : ℕ) (default : Request) (ts more : List Terms) (t : Terms) → i < length requests → more ≡ ts ++ t ∷ []
+    → AreTerms settings (map request_content (take i requests)) ts → IsTerms settings (request_content (get_or requests i default)) t
+    → AreTerms settings (map request_content (take (i + 1) requests)) more
+terms_more settings requests i default ts more t below is all one =
+    subst (λ (all : List Terms). AreTerms settings (map request_content (take (i + 1) requests)) all) (sym is)
+    (subst (λ (rs : List RequestContent). AreTerms settings rs (ts ++ t ∷ [])) (sym (ap (map request_content) (take_more requests i default below) ∙ map-append request_content (take i requests) (get_or requests i default ∷ [])))
+    (terms_then settings (map request_content (take i requests)) (request_content (get_or requests i default)) ts t all one))
 
 incoming_then : (rs : List RequestContent) (r : RequestContent) (ts : List Terms) (t : Terms) (is : List Incoming) (i : Incoming) → AreIncoming rs ts is → i.bytes.now ≡ r.bytes → i.terms.now ≡ t
     → AreIncoming (rs ++ r ∷ []) (ts ++ t ∷ []) (is ++ i ∷ [])
@@ -118,9 +118,9 @@ known_by (Err error) old mid new before after same known = tt
 
 -- ---- requests that are served
 
-module _ {S : Type 0} (performs : S → Event → S → Type 0) (old : Keeping S) (rs : List RequestContent) (terms : List Terms) (mid new : Keeping S) (are : AreTerms old.settings.limit old.settings.updaters rs terms) where
+module _ {S : Type 0} (performs : S → Event → S → Type 0) (old : Keeping S) (rs : List RequestContent) (terms : List Terms) (mid new : Keeping S) (are : AreTerms old.settings rs terms) where
   serves_as : (replies : Option (List (Option (List ℕ)))) → IsSettled (is_none replies) mid new → Responded performs old rs terms replies mid → Serves performs old rs replies new
-  serves_as replies settled responded = record { terms = terms; mid = mid; are_terms = are; responded = responded; settled = settled }
+  serves_as replies settled responded = record { terms = terms; are_terms = are; served = record { mid = mid; responded = responded; settled = settled } }
 
   settled_by : (refused whether : Bool) → refused ≡ whether → IsSettled refused mid new → IsSettled whether mid new
   settled_by refused whether same settled = subst (λ (b : Bool). IsSettled b mid new) same settled
@@ -136,8 +136,8 @@ module _ {S : Type 0} (performs : S → Event → S → Type 0) (old : Keeping S
   serves_err (Err error) refused is settled responded = inr (None, serves_as None (settled_by refused true is settled) responded)
 
   pub serves_one : (r : Result Recorded AllocError) (refused : Bool) → refused ≡ is_err r → IsSettled refused mid new → Responded performs old rs terms (one_if r) mid
-      → IfOk r (λ recorded. Serves performs old rs (Some (recorded_bytes recorded ∷ [])) new)
-  serves_one (Ok recorded) refused is settled responded = serves_as (Some (recorded_bytes recorded ∷ [])) (settled_by refused false is settled) responded
+      → IfOk r (λ recorded. ServesWith performs old rs terms (Some (recorded_bytes recorded ∷ [])) new)
+  serves_one (Ok recorded) refused is settled responded = record { mid = mid; responded = responded; settled = settled_by refused false is settled }
   serves_one (Err error) refused is settled responded = tt
 
   pub serves_none : (r : Result Recorded AllocError) (refused : Bool) → refused ≡ is_err r → IsSettled refused mid new → Responded performs old rs terms (one_if r) mid
@@ -298,10 +298,10 @@ no_items [] len = refl
 no_items (x ∷ xs) len = absurd (omega (arith, len))
 
 -- each request has its terms
-pub terms_length : (limit : ℕ) (updaters : List AddrPrefix) (rs : List RequestContent) (ts : List Terms) → AreTerms limit updaters rs ts → length ts ≡ length rs
-terms_length limit updaters [] ts none = ap length none
-terms_length limit updaters (r ∷ rs) [] none = absurd none
-terms_length limit updaters (r ∷ rs) (t ∷ ts) are = ap (λ (n : ℕ). suc n) (terms_length limit updaters rs ts are.1)
+pub terms_length : (settings : Settings) (rs : List RequestContent) (ts : List Terms) → AreTerms settings rs ts → length ts ≡ length rs
+terms_length settings [] ts none = ap length none
+terms_length settings (r ∷ rs) [] none = absurd none
+terms_length settings (r ∷ rs) (t ∷ ts) are = ap (λ (n : ℕ). suc n) (terms_length settings rs ts are.1)
 
 pub length_of_requests : (requests : List Request) → length (map request_content requests) ≡ length requests
 length_of_requests [] = refl

@@ -41,9 +41,10 @@ use Rattle.dns_sockets.proofs.SentLaws.{given}
 use Rattle.dns_zone.specs.Rows.{ZoneContent}
 use Rattle.nameserver_handlers.proofs.ActLaws.{split}
 use Rattle.nameserver_handlers.proofs.RuleLaws.{service_leaves}
-use Rattle.nameserver_handlers.specs.ByRules.{AnswersBy, AnswersByRule, AnswersEach, AnswersOne, AnswersUnless, AnswersWith, ByFormer, ByFormerIf, ByService, LeavesEach, LeavesWith, Steps}
+use Rattle.nameserver_handlers.specs.ByRules.{AnswersBy, AnswersByRule, AnswersEach, AnswersOne, AnswersUnless, AnswersWith, ByCurrent, ByFormer, ByFormerIf, ByService, LeavesEach, LeavesWith, Steps, asks_former}
+use Rattle.dns_tsig.specs.declared.verify.Checked.{Checked}
 use Rattle.nameserver_handlers.specs.ByRules.LeavesEach.{more_left, none_left, one_left}
-use Rattle.nameserver_handlers.specs.Handling.{AnswersTogether, AreIncoming, AreLeft, AreServed, AreTerms, IsTerms, Keeping, LeavesTogether, Responded, Serves}
+use Rattle.nameserver_handlers.specs.Handling.{AnswersTogether, AreIncoming, AreLeft, AreServed, AreTerms, IsTerms, Keeping, LeavesTogether, Responded, Serves, ServesWith}
 use Rattle.nameserver_handlers.specs.History.{IsAnswer, IsHandledAfter, MayUpdate, NoneUpdates, requests_in, requests_of}
 use Rattle.nameserver_handlers.specs.History.IsAnswer.{as_notification, to_request}
 use Rattle.nameserver_handlers.specs.declared.settings.Settings.{Settings}
@@ -79,7 +80,7 @@ true_or_false false = inr refl
 
 module _ (settings : Settings) where
   -- such a request changes nothing
-  no_change : (r : RequestContent) (t : Terms) (i : Incoming) (a : Admitted) → ¬ (MayUpdate settings r) → IsTerms settings.limit settings.updaters r t
+  no_change : (r : RequestContent) (t : Terms) (i : Incoming) (a : Admitted) → ¬ (MayUpdate settings r) → IsTerms settings r t
       → i.bytes.now ≡ r.bytes → i.terms.now ≡ t → IsAdmitted settings.policy i (Request a) → makes_change a ≡ false
   no_change r t i a may_not terms bytes terms_are admitted = by (true_or_false (makes_change a))
     where
@@ -88,14 +89,14 @@ module _ (settings : Settings) where
       by (inl makes) = absurd (may_not (record {
         request = a;
         bytes_are = ap (λ (x : Incoming). x.bytes.now) admitted.0 ∙ bytes;
-        terms_are = subst (λ (x : Terms). IsTerms settings.limit settings.updaters r x) (sym (ap (λ (x : Incoming). x.terms.now) admitted.0 ∙ terms_are)) terms;
+        terms_are = subst (λ (x : Terms). IsTerms settings r x) (sym (ap (λ (x : Incoming). x.terms.now) admitted.0 ∙ terms_are)) terms;
         judged = admitted.1;
         is_change = makes;
       }))
 
   -- none of them has an entry
   none_admitted : (rs : List RequestContent) (ts : List Terms) (incoming : List Incoming) (admitted : List Arrived) → NoneUpdates settings rs
-      → AreTerms settings.limit settings.updaters rs ts → AreIncoming rs ts incoming → AreAdmitted settings.policy incoming admitted → changes_in admitted ≡ []
+      → AreTerms settings rs ts → AreIncoming rs ts incoming → AreAdmitted settings.policy incoming admitted → changes_in admitted ≡ []
   none_admitted rs ts incoming admitted none terms are no_incoming = refl
   none_admitted [] ts incoming admitted none terms are (an_incoming {incoming = i} {more = more} {a = a} {others = others} one rest) = absurd (cc are.1)
   none_admitted (r ∷ rs) [] incoming admitted none terms are (an_incoming {incoming = i} {more = more} {a = a} {others = others} one rest) = absurd terms
@@ -109,7 +110,7 @@ module _ (settings : Settings) where
 
 -- the zones stay, whatever the outcome
 responds_stay : (settings : Settings) (rs : List RequestContent) (ts : List Terms) (incoming : List Incoming) (outcome : Result Replies AllocError) (old new : Position) (zones after : List ZoneContent)
-    (es : List Event) → NoneUpdates settings rs → AreTerms settings.limit settings.updaters rs ts → AreIncoming rs ts incoming
+    (es : List Event) → NoneUpdates settings rs → AreTerms settings rs ts → AreIncoming rs ts incoming
     → Responds settings.policy incoming outcome old new zones after es → after ≡ zones
 responds_stay settings rs ts incoming outcome old new zones after es none terms are (inl given_up) = given_up.zones_are
 responds_stay settings rs ts incoming (Ok replies) old new zones after es none terms are (inr answers) =
@@ -132,8 +133,11 @@ module _ {S : Type 0} (performs : S → Event → S → Type 0) where
   responded_keep old rs ts (Some replies) mid served = served.settings_kept
   responded_keep old rs ts None mid left = left.settings_kept
 
+  served_keep : (old : Keeping S) (rs : List RequestContent) (ts : List Terms) (replies : Option (List (Option (List ℕ)))) (new : Keeping S) → ServesWith performs old rs ts replies new → Keeps old new
+  served_keep old rs ts replies new served = served.settled.settings ∙ responded_keep old rs ts replies served.mid served.responded
+
   serves_keep : (old : Keeping S) (rs : List RequestContent) (replies : Option (List (Option (List ℕ)))) (new : Keeping S) → Serves performs old rs replies new → Keeps old new
-  serves_keep old rs replies new serves = serves.settled.settings ∙ responded_keep old rs serves.terms replies serves.mid serves.responded
+  serves_keep old rs replies new serves = served_keep old rs serves.terms replies new serves.served
 
   leaves_keep : (old : Keeping S) (rs : List RequestContent) (new : Keeping S) → LeavesTogether performs old rs new → Keeps old new
   leaves_keep old rs new (inl same) = same_keep old new same
@@ -143,21 +147,25 @@ module _ {S : Type 0} (performs : S → Event → S → Type 0) where
   by_keep old r None delivery new is = serves_keep old (r ∷ []) (Some is.replies) new is.serves
   by_keep old r (Some d) delivery new is =
       same_keep (record is.mid { faults = new.faults }) new (is.new_is ∙ ap (λ t. record is.mid { faults = t }) (sym (ap (λ (k : Keeping S). k.faults) is.new_is)))
-      ∙ leaves_keep old (r ∷ []) is.mid (service_leaves performs old is.mid r d.decision.fault.service d.request is.reply is.served)
+      ∙ leaves_keep old (r ∷ []) is.mid (service_leaves performs old is.mid r is.terms is.are_terms d.decision.fault.service d.request is.reply is.served)
 
-  unless_keep : (old : Keeping S) (r : RequestContent) (found : Option (List ℕ)) (delivery : Delivery) (new : Keeping S) → AnswersUnless performs found old r delivery new → Keeps old new
-  unless_keep old r (Some reply) delivery new is = same_keep old new is.1
-  unless_keep old r None delivery new is = by_keep old r is.0 delivery new is.1.1
+  unless_keep : (old : Keeping S) (r : RequestContent) (found : Option (List ℕ)) (decided : Option Decided) (delivery : Delivery) (new : Keeping S) → AnswersUnless performs found decided old r delivery new
+      → Keeps old new
+  unless_keep old r (Some reply) decided delivery new is = same_keep old new is.1
+  unless_keep old r None decided delivery new is = by_keep old r decided delivery new is
+
+  one_keep : (old : Keeping S) (r : RequestContent) (delivery : Delivery) (new : Keeping S) → AnswersOne performs old r delivery new → Keeps old new
+  one_keep old r delivery new is = unless_keep old r is.1.1.0 is.0 delivery new is.1.1.1.1
 
   each_keep : (old new : Keeping S) (rs : List RequestContent) (ds : List Delivery) → AnswersEach performs old rs ds new → Keeps old new
   each_keep old new [] ds is = same_keep old new is.1
   each_keep old new (r ∷ rs) [] is = absurd is
-  each_keep old new (r ∷ rs) (d ∷ ds) is = each_keep is.0 new rs ds is.1.1 ∙ unless_keep old r is.1.0.0 d is.0 is.1.0.1.1
+  each_keep old new (r ∷ rs) (d ∷ ds) is = each_keep is.0 new rs ds is.1.1 ∙ one_keep old r d is.0 is.1.0
 
   left_keep : (old new : Keeping S) (rs : List RequestContent) → LeavesEach performs old rs new → Keeps old new
   left_keep old new rs (none_left old2 rs2) = refl
   left_keep old new rs (one_left old2 r more new2 leaves) = leaves_keep old2 (r ∷ []) new2 leaves
-  left_keep old new rs (more_left old2 r more d mid new2 one rest) = left_keep mid new2 more rest ∙ unless_keep old2 r one.0 d mid one.1.1
+  left_keep old new rs (more_left old2 r more d mid new2 one rest) = left_keep mid new2 more rest ∙ one_keep old2 r d mid one
 
   with_keep : (rules : List CountedRule) (old new : Keeping S) (rs : List RequestContent) (ds : List Delivery) → AnswersWith performs rules old rs ds new → Keeps old new
   with_keep [] old new rs ds is = serves_keep old rs (Some is.replies) new is.serves
@@ -197,7 +205,7 @@ module _ {S : Type 0} (performs : S → Event → S → Type 0) where
   both_stay old mid new first next = record { zones = next.zones ∙ first.zones; settings = next.settings ∙ first.settings }
 
   module _ (old : Keeping S) (rs : List RequestContent) (none : NoneUpdates old.settings rs) where
-    responded_stay : (ts : List Terms) (replies : Option (List (Option (List ℕ)))) (mid : Keeping S) → AreTerms old.settings.limit old.settings.updaters rs ts
+    responded_stay : (ts : List Terms) (replies : Option (List (Option (List ℕ)))) (mid : Keeping S) → AreTerms old.settings rs ts
         → Responded performs old rs ts replies mid → Stays old mid
     responded_stay ts (Some replies) mid terms served = record {
       zones = responds_stay old.settings rs ts served.incoming (Ok served.outcome) old.position mid.position old.zones mid.zones served.serves.events none terms served.are_incoming served.serves.holds;
@@ -210,9 +218,12 @@ module _ {S : Type 0} (performs : S → Event → S → Type 0) where
         by (inl same) = same.1
         by (inr (incoming, outcome, (are, served))) = responds_stay old.settings rs ts incoming outcome old.position mid.position old.zones mid.zones served.events none terms are served.holds
 
+    served_stay : (ts : List Terms) (replies : Option (List (Option (List ℕ)))) (new : Keeping S) → AreTerms old.settings rs ts → ServesWith performs old rs ts replies new → Stays old new
+    served_stay ts replies new terms served = both_stay old served.mid new (responded_stay ts replies served.mid terms served.responded)
+        (record { zones = served.settled.zones; settings = served.settled.settings })
+
     serves_stay : (replies : Option (List (Option (List ℕ)))) (new : Keeping S) → Serves performs old rs replies new → Stays old new
-    serves_stay replies new serves = both_stay old serves.mid new (responded_stay serves.terms replies serves.mid serves.are_terms serves.responded)
-        (record { zones = serves.settled.zones; settings = serves.settled.settings })
+    serves_stay replies new serves = served_stay serves.terms replies new serves.are_terms serves.served
 
     leaves_stay : (new : Keeping S) → LeavesTogether performs old rs new → Stays old new
     leaves_stay new (inl same) = same_stays old new same
@@ -223,26 +234,34 @@ module _ {S : Type 0} (performs : S → Event → S → Type 0) where
     one_stays : (replies : Option (List (Option (List ℕ)))) (new : Keeping S) → Serves performs old (r ∷ []) replies new → Stays old new
     one_stays replies new serves = serves_stay old (r ∷ []) (may_not, tt) replies new serves
 
-    former_stays : (asks : Bool) (f : Option Former) (terms : Terms) (m : Message) (reply : Option (List ℕ)) (new : Keeping S) → ByFormerIf performs asks f old terms r m reply new → Stays old new
-    former_stays true (Some f) terms m reply new is = same_stays old new is.unchanged
-    former_stays true None terms m reply new is = one_stays (Some (reply ∷ [])) new is
-    former_stays false f terms m reply new is = one_stays (Some (reply ∷ [])) new is
+    module _ (terms : Terms) (are : IsTerms old.settings r terms) where
+      current_stays : (reply : Option (List ℕ)) (new : Keeping S) → ByCurrent performs old r terms reply new → Stays old new
+      current_stays reply new is = served_stay old (r ∷ []) (may_not, tt) (terms ∷ []) (Some (reply ∷ [])) new (are, refl) is
 
-    service_stays : (service : Service) (m : Message) (reply : Option (List ℕ)) (new : Keeping S) → ByService performs service old r m reply new → Stays old new
-    service_stays services.Plain m reply new is = one_stays (Some (reply ∷ [])) new is
-    service_stays services.Stale m reply new is = former_stays is.asks old.former is.terms m reply new is.answered
-    service_stays services.Drop m reply new is = same_stays old new is.1
-    service_stays (services.Code number) m reply new is = same_stays old new is.unchanged
+      former_stays : (asks : Bool) (f : Option Former) (m : Message) (checked : Checked) (reply : Option (List ℕ)) (new : Keeping S) → ByFormerIf performs asks f old r terms m checked reply new
+          → Stays old new
+      former_stays true (Some f) m checked reply new is = same_stays old new is.unchanged
+      former_stays true None m checked reply new is = current_stays reply new is
+      former_stays false f m checked reply new is = current_stays reply new is
+
+      service_stays : (service : Service) (m : Message) (reply : Option (List ℕ)) (new : Keeping S) → ByService performs service old r terms m reply new → Stays old new
+      service_stays services.Plain m reply new is = current_stays reply new is
+      service_stays services.Stale m reply new is = former_stays (asks_former m.metadata.op_code is.checked.verdict) old.former m is.checked reply new is.answered
+      service_stays services.Drop m reply new is = same_stays old new is.1
+      service_stays (services.Code number) m reply new is = same_stays old new is.unchanged
 
     by_stays : (d : Option Decided) (delivery : Delivery) (new : Keeping S) → AnswersBy performs d old r delivery new → Stays old new
     by_stays None delivery new is = one_stays (Some is.replies) new is.serves
     by_stays (Some d) delivery new is =
-        let served = service_stays d.decision.fault.service d.request is.reply is.mid is.served in
+        let served = service_stays is.terms is.are_terms d.decision.fault.service d.request is.reply is.mid is.served in
         record { zones = ap (λ (k : Keeping S). k.zones) is.new_is ∙ served.zones; settings = ap (λ (k : Keeping S). k.settings) is.new_is ∙ served.settings }
 
-    unless_stays : (found : Option (List ℕ)) (delivery : Delivery) (new : Keeping S) → AnswersUnless performs found old r delivery new → Stays old new
-    unless_stays (Some reply) delivery new is = same_stays old new is.1
-    unless_stays None delivery new is = by_stays is.0 delivery new is.1.1
+    unless_stays : (found : Option (List ℕ)) (decided : Option Decided) (delivery : Delivery) (new : Keeping S) → AnswersUnless performs found decided old r delivery new → Stays old new
+    unless_stays (Some reply) decided delivery new is = same_stays old new is.1
+    unless_stays None decided delivery new is = by_stays decided delivery new is
+
+    request_stays : (delivery : Delivery) (new : Keeping S) → AnswersOne performs old r delivery new → Stays old new
+    request_stays delivery new is = unless_stays is.1.1.0 is.0 delivery new is.1.1.1.1
 
   -- several
   none_by : (old mid : Keeping S) (rs : List RequestContent) → Stays old mid → NoneUpdates old.settings rs → NoneUpdates mid.settings rs
@@ -252,14 +271,14 @@ module _ {S : Type 0} (performs : S → Event → S → Type 0) where
   each_stays old new [] ds none is = same_stays old new is.1
   each_stays old new (r ∷ rs) [] none is = absurd is
   each_stays old new (r ∷ rs) (d ∷ ds) none is =
-      let first = unless_stays old r none.0 is.1.0.0 d is.0 is.1.0.1.1 in
+      let first = request_stays old r none.0 d is.0 is.1.0 in
       both_stay old is.0 new first (each_stays is.0 new rs ds (none_by old is.0 rs first none.1) is.1.1)
 
   left_stays : (old new : Keeping S) (rs : List RequestContent) → NoneUpdates old.settings rs → LeavesEach performs old rs new → Stays old new
   left_stays old new rs none (none_left old2 rs2) = same_stays old old refl
   left_stays old new rs none (one_left old2 r more new2 leaves) = leaves_stay old (r ∷ []) (none.0, tt) new2 leaves
   left_stays old new rs none (more_left old2 r more d mid new2 one rest) =
-      let first = unless_stays old r none.0 one.0 d mid one.1.1 in
+      let first = request_stays old r none.0 d mid one in
       both_stay old mid new2 first (left_stays mid new2 more (none_by old mid more first none.1) rest)
 
   with_stays : (rules : List CountedRule) (old new : Keeping S) (rs : List RequestContent) (ds : List Delivery) → NoneUpdates old.settings rs → AnswersWith performs rules old rs ds new → Stays old new

@@ -17,13 +17,13 @@ use Rattle.dns_journal.specs.declared.journal.Position.{Position}
 use Rattle.dns_journal.specs.declared.journal.State.TheVariants as states
 use Rattle.dns_messages.specs.Grammar.{ReadsMessage}
 use Rattle.dns_messages.specs.declared.message.Message.{Message}
-use Rattle.dns_names.specs.declared.reverse.AddrPrefix.{AddrPrefix}
 use Rattle.dns_nameserver.specs.Answered.{IsCoverageOf, reply_transport, updates_of}
 use Rattle.dns_nameserver.specs.Former.{Former, former_after, has_changed}
 use Rattle.dns_sockets.specs.Handler.{RequestContent}
 use Rattle.dns_transfers.specs.replies.Recording.{AreForgotten, AreHistoriesOf}
 use Rattle.dns_transfers.specs.declared.replies.recorder.Recorder.{Recorder}
 use Rattle.dns_zone.specs.Rows.{ZoneContent}
+use Rattle.nameserver_handlers.specs.Clock.{Shows}
 use Rattle.nameserver_handlers.specs.Transferring.{Content, TransferByDatagram}
 use Rattle.nameserver_handlers.specs.declared.handler.RequestHandler.{RequestHandler}
 use Rattle.nameserver_handlers.specs.declared.settings.Settings.{Settings}
@@ -55,19 +55,20 @@ keeping h = record {
 
 -- ---- requests
 
--- What decides on the reply to a request, beside its bytes: the transport, with the greatest size of datagrams, and whether the address of
--- its peer may update without a key. Signatures are in time by some clock.
-pub record IsTerms (limit : ℕ) (updaters : List AddrPrefix) (r : RequestContent) (terms : Terms) : Type 0 where
+-- What decides on the reply to a request, beside its bytes: the transport, with the greatest size of datagrams, whether the address of its
+-- peer may update without a key, and the time by which its signature is in time.
+pub record IsTerms (settings : Settings) (r : RequestContent) (terms : Terms) : Type 0 where
   pub covered : Bool
-  pub coverage : IsCoverageOf updaters (socket_ip r.peer) covered
-  pub transport_is : terms.transport ≡ reply_transport r.transport limit
+  pub coverage : IsCoverageOf settings.updaters (socket_ip r.peer) covered
+  pub transport_is : terms.transport ≡ reply_transport r.transport settings.limit
   pub local_is : terms.local ≡ updates_of covered
+  pub time_is : Shows settings.transfers.clock r.moment terms.time
 
 -- the same of requests, in order
-abbrev pub AreTerms : ℕ → List AddrPrefix → List RequestContent → List Terms → Type 0
-AreTerms limit updaters [] terms = terms ≡ []
-AreTerms limit updaters (r ∷ rs) [] = ⊥
-AreTerms limit updaters (r ∷ rs) (t ∷ ts) = IsTerms limit updaters r t × AreTerms limit updaters rs ts
+abbrev pub AreTerms : Settings → List RequestContent → List Terms → Type 0
+AreTerms settings [] terms = terms ≡ []
+AreTerms settings (r ∷ rs) [] = ⊥
+AreTerms settings (r ∷ rs) (t ∷ ts) = IsTerms settings r t × AreTerms settings rs ts
 
 -- requests that have arrived, with what else decides on their replies
 abbrev pub AreIncoming : List RequestContent → List Terms → List Incoming → Type 0
@@ -181,14 +182,19 @@ pub record IsSettled {S : Type 0} (is_refused : Bool) (old new : Keeping S) : Ty
   pub former : FormerIf is_refused old.former new.former
   pub faults : new.faults ≡ old.faults
 
--- requests are served by their terms, up to a state of the storage
+-- requests with their terms are served, up to a state of the storage
+pub record ServesWith {S : Type 0} (performs : S → Event → S → Type 0) (old : Keeping S) (rs : List RequestContent) (terms : List Terms)
+    (replies : Option (List (Option (List ℕ)))) (new : Keeping S) : Type 0 where
+  pub mid : Keeping S
+  pub responded : Responded performs old rs terms replies mid
+  pub settled : IsSettled (is_none replies) mid new
+
+-- requests are served by their terms
 pub record Serves {S : Type 0} (performs : S → Event → S → Type 0) (old : Keeping S) (rs : List RequestContent)
     (replies : Option (List (Option (List ℕ)))) (new : Keeping S) : Type 0 where
   pub terms : List Terms
-  pub mid : Keeping S
-  pub are_terms : AreTerms old.settings.limit old.settings.updaters rs terms
-  pub responded : Responded performs old rs terms replies mid
-  pub settled : IsSettled (is_none replies) mid new
+  pub are_terms : AreTerms old.settings rs terms
+  pub served : ServesWith performs old rs terms replies new
 
 -- ---- what is sent
 

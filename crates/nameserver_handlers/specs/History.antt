@@ -55,7 +55,7 @@ requests_in (By origin event ∷ acts) = requests_of event ++ requests_in acts
 pub record MayUpdate (settings : Settings) (r : RequestContent) : Type 0 where
   pub request : Admitted
   pub bytes_are : request.incoming.bytes.now ≡ r.bytes
-  pub terms_are : IsTerms settings.limit settings.updaters r request.incoming.terms.now
+  pub terms_are : IsTerms settings r request.incoming.terms.now
   pub judged : IsJudged settings.policy request
   pub is_change : makes_change request ≡ true
 

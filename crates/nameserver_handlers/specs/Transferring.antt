@@ -7,14 +7,13 @@ use Rattle.dns_messages.specs.Header.{peeked_metadata}
 use Rattle.dns_nameserver.specs.Answered.{IsCoverageOf}
 use Rattle.dns_sockets.specs.Handler.{RequestContent}
 use Rattle.dns_transfers.specs.replies.Reply.{Replies, has_authorities, has_query}
-use Rattle.dns_names.specs.declared.reverse.AddrPrefix.{AddrPrefix}
-use Rattle.std.specs.declared.net.socket_addr.SocketAddr.{SocketAddr}
 use Rattle.dns_transfers.specs.declared.replies.reply.Terms.{Terms}
 use Rattle.dns_transfers.specs.declared.replies.zone_history.ZoneHistory.{ZoneHistory}
 use Rattle.dns_tsig.specs.declared.key.Key.{Key}
 use Rattle.dns_zone.specs.Rows.{ZoneContent}
 use Rattle.dns_zone.specs.declared.transport.Transport as reply
 use Rattle.nameserver_handlers.specs.declared.transfers.Sources.{Sources}
+use Rattle.nameserver_handlers.specs.Clock.{Shows}
 use Rattle.nameserver_handlers.specs.declared.transfers.Transfers.{Transfers}
 
 -- what is transferred: zones, their last differences, and the keys with which requests may be signed
@@ -27,19 +26,20 @@ pub record Content : Type 0 where
 abbrev pub content_of : Sources → Content
 content_of s = record { zones = s.zones.now; histories = s.histories.now; keys = s.keys.now }
 
--- What decides on the reply to a peer, beside the bytes of its request: the transport, and whether the peer is one of these secondaries,
--- unless the server is busy.
-pub record AreTerms (secondaries : List AddrPrefix) (is_busy : Bool) (transport : reply.Transport) (peer : SocketAddr) (terms : Terms) : Type 0 where
+-- What decides on the reply to a request, beside its bytes: the transport, whether its peer is one of the secondaries, unless the server is
+-- busy, and the time by which its signature is in time.
+pub record AreTerms (t : Transfers) (is_busy : Bool) (transport : reply.Transport) (r : RequestContent) (terms : Terms) : Type 0 where
   pub covered : Bool
-  pub coverage : IsCoverageOf secondaries (socket_ip peer) covered
+  pub coverage : IsCoverageOf t.secondaries (socket_ip r.peer) covered
   pub permitted : terms.is_permitted ≡ (not is_busy && covered)
   pub transport_is : terms.transport ≡ transport
+  pub time_is : Shows t.clock r.moment terms.time
 
 -- Whether a request is for a transfer depends on its bytes alone; whether it is permitted, on the addresses of the secondaries, and on
--- whether the server is busy. Signatures are in time by some clock.
+-- whether the server is busy.
 abbrev pub Transfer : Content → Transfers → Bool → reply.Transport → RequestContent → Option (List (List ℕ)) → Type 0
 Transfer content t is_busy transport r found =
-    (terms : Terms) × (AreTerms t.secondaries is_busy transport r.peer terms
+    (terms : Terms) × (AreTerms t is_busy transport r terms
     × Replies content.zones content.histories content.keys terms r.bytes found)
 
 -- the same if transfers are offered; else no request is for one

@@ -70,6 +70,9 @@ impl<R: Host, S: TextFile, W: Write> Handler for RequestHandler<'_, R, S, W> {
         request: &Request<'_>,
         is_busy: bool,
     ) -> Result<Option<Vec<Vec<u8>>>, AllocError> {
+        if self.is_stopped(request)? {
+            return Ok(None);
+        }
         let sources = Sources {
             zones: self.server.server.zones(),
             histories: self.recorder.histories(),

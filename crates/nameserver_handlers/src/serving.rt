@@ -8,7 +8,7 @@ ghost use Rattle.dns_server.specs.Maintaining.{IsRecordableOf};
 ghost use Rattle.dns_sockets.specs.Handler.{message_bytes, request_content};
 ghost use Rattle.dns_transfers.specs.replies.Recording.{AreHistoriesOf};
 ghost use Rattle.dns_zone.specs.Rows.{ZoneContent};
-ghost use Rattle.nameserver_handlers.specs.Handling.{AnswersTogether, AreDelivered, AreIncoming, AreTerms, Follows, FollowsIf, FollowsOne, first_bytes, others_of, IsDelivered, IsSettled, IsTerms, LeavesTogether, Responded, Serves, keeping, kept_content, one_if, or_else, position_again, recorded_bytes, recorded_if};
+ghost use Rattle.nameserver_handlers.specs.Handling.{AnswersTogether, AreDelivered, AreIncoming, AreTerms, Follows, FollowsIf, FollowsOne, first_bytes, others_of, IsDelivered, IsSettled, IsTerms, LeavesTogether, Responded, Serves, ServesWith, keeping, kept_content, one_if, or_else, position_again, recorded_bytes, recorded_if};
 ghost use Rattle.nameserver_handlers.specs.Transferring.{TransferByDatagram};
 
 use crate::handler::RequestHandler;
@@ -71,7 +71,8 @@ impl<R: Host, S: TextFile, W: Write> RequestHandler<'_, R, S, W> {
         ensures err { OnErr result (LeavesTogether S.performs (keeping self.old)
             (request_content request.now ∷ []) (keeping self.new)) }
     {
-        let recorded = self.serve_one(request)?;
+        let terms = self.terms(request);
+        let recorded = self.serve_one(request, &terms)?;
         self.notify(recorded.has_updated, request.moment);
         self.logged(request, recorded)
     }
@@ -101,16 +102,20 @@ impl<R: Host, S: TextFile, W: Write> RequestHandler<'_, R, S, W> {
         replies
     }
 
-    /// Returns the reply to a request, and records what it has changed.
-    pub(crate) fn serve_one(&mut self, request: &Request<'_>) -> Result<Recorded, AllocError>
-        ensures ok { IfOk result (λ recorded. Serves S.performs (keeping self.old)
-            (request_content request.now ∷ []) (Some (recorded_bytes recorded ∷ []))
+    /// Returns the reply to a request with its terms, and records what it has changed.
+    pub(crate) fn serve_one(
+        &mut self,
+        request: &Request<'_>,
+        terms: &Terms,
+    ) -> Result<Recorded, AllocError>
+        requires { IsTerms self.old.settings (request_content request.now) terms.now }
+        ensures ok { IfOk result (λ recorded. ServesWith S.performs (keeping self.old)
+            (request_content request.now ∷ []) (terms.now ∷ []) (Some (recorded_bytes recorded ∷ []))
             (keeping self.new)) }
         ensures err { OnErr result (LeavesTogether S.performs (keeping self.old)
             (request_content request.now ∷ []) (keeping self.new)) }
     {
-        let terms = self.terms(request);
-        let outcome = self.respond_one(request, &terms);
+        let outcome = self.respond_one(request, terms);
         self.settle(outcome.is_err());
         outcome
     }
@@ -237,7 +242,7 @@ impl<R: Host, S: TextFile, W: Write> RequestHandler<'_, R, S, W> {
 
     /// Returns what decides on the replies to requests, beside their bytes.
     fn terms_of(&self, requests: &[Request<'_>]) -> Result<Vec<Terms>, AllocError>
-        ensures { IfOk result (λ terms. AreTerms self.now.settings.limit self.now.settings.updaters
+        ensures { IfOk result (λ terms. AreTerms self.now.settings
             (map request_content requests.now) terms.items) }
     {
         let mut terms = Vec::new(self.rt.alloc());
@@ -249,7 +254,7 @@ impl<R: Host, S: TextFile, W: Write> RequestHandler<'_, R, S, W> {
 
     /// Returns what decides on the reply to a request, beside its bytes.
     pub(crate) fn terms(&self, request: &Request<'_>) -> Terms
-        ensures { IsTerms self.now.settings.limit self.now.settings.updaters
+        ensures { IsTerms self.now.settings
             (request_content request.now) result }
     {
         let settings = &self.settings;

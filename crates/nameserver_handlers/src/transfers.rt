@@ -105,7 +105,7 @@ impl Transfers {
         transport: Transport,
         is_busy: bool,
     ) -> Terms
-        ensures { AreTerms self.now.secondaries is_busy transport request.now.peer result }
+        ensures { AreTerms self.now is_busy transport (request_content request.now) result }
     {
         Terms {
             transport,

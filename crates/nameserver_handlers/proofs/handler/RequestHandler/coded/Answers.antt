@@ -7,7 +7,6 @@ returns g c = record {
   one = record { question = c.query-item.result; queries_are = only_item c.args.message.now.queries c.requires.question c.query-item.result c.requires.queries_are (c.query-item.is ∙ ap (λ queries. get_or queries 0 c.query-item.result) c.as_slice.ensures) };
   plain = c.in_ok-plain.plain.items;
   bytes = c.in_ok-signed.field-0.items;
-  time = c.terms-time.result.time;
   encodes = c.in_ok-plain.ensures;
   signed = c.in_ok-signed.ensures;
   reply_is = refl;
