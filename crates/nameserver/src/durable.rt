@@ -159,10 +159,10 @@ fn server_of(
     files: &StoredFiles,
 ) -> Result<Server, Ending> {
     let start = Instant::now(rt);
-    let zone = stored_zone(rt, arguments, file, files)?;
-    tell(rt, file, &zone, milliseconds_since(rt, start));
-    let mut server = Server::new(rt.alloc());
-    add_zone(rt.alloc(), &mut server, file, zone)?;
+    let server = quiet_server_of(rt, arguments, file, files)?;
+    if let [zone] = server.zones() {
+        tell(rt, file, zone, milliseconds_since(rt, start));
+    }
     Ok(server)
 }
 

@@ -151,8 +151,9 @@ fn run_server(
     part: Option<&Part>,
 ) -> Result<String, Ending> {
     let faults = fault_table(rt, &arguments, part)?;
-    let mut opened = open(rt, &arguments, has_stale(&faults))?;
-    if arguments.durable.compact {
+    let is_compaction = arguments.durable.compact;
+    let mut opened = open(rt, &arguments, has_stale(&faults) && !is_compaction)?;
+    if is_compaction {
         compact_and_end(rt, &arguments, &mut opened.server)?;
         return Ok(String::new(rt.alloc()));
     }
