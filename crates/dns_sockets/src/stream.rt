@@ -11,7 +11,7 @@ ghost use Rattle.dns_sockets.specs.Trace.{At, Consults, IsOfStream, MayRead, Tra
 ghost use Rattle.dns_sockets.specs.World.{Clocked, IsWithin, moved, write_event};
 ghost use Rattle.dns_sockets.specs.declared.world.Progress.{Progress};
 ghost use Rattle.dns_sockets.specs.Handler.{message_bytes, request_content};
-ghost use Rattle.dns_sockets.specs.Stream.{Answers, AnswersAt, AreAnswered, AreHandled, deadline, held_message, held_reply, stream_request};
+ghost use Rattle.dns_sockets.specs.Stream.{Answers, AnswersAt, AreAnswered, AreHandled, IsNew, deadline, held_message, held_reply, noted, stream_request};
 ghost use Rattle.dns_sockets.specs.StreamTable.{is_transferring};
 
 use crate::clock::Milliseconds;
@@ -128,7 +128,8 @@ impl Drop for Stream {
 impl Stream {
     /// Creates the state of a connection that a listener has accepted.
     pub(crate) fn new(alloc: Global, peer: SocketAddr, now: Milliseconds) -> Stream
-        ensures { connection_of result ≡ connected peer }
+        ensures connected { connection_of result ≡ connected peer }
+        ensures fresh { IsNew peer now result }
     {
         Stream {
             alloc,
@@ -150,7 +151,8 @@ impl Stream {
 
     /// Takes note of what the system says that the socket is ready for.
     pub(crate) fn note(&mut self, is_readable: bool, is_writable: bool)
-        ensures { connection_of self.new ≡ connection_of self.old }
+        ensures kept { connection_of self.new ≡ connection_of self.old }
+        ensures noted { self.new ≡ noted is_readable is_writable self.old }
     {
         self.readiness.read = self.readiness.read || is_readable;
         self.readiness.write = self.readiness.write || is_writable;
