@@ -23,3 +23,5 @@ pub mod StreamWitness
 pub mod ListenerLaws
 pub mod NotedLaws
 pub mod ShareLaws
+pub mod BoundLaws
+pub mod BoundWitness
