@@ -10,7 +10,7 @@ use Rattle.dns_sockets.specs.Connections.{Connected, Follows, IsActAllowed, IsEv
 use Rattle.dns_sockets.specs.Deadlines.{earliest, service_deadline, slot_deadline}
 use Rattle.dns_sockets.specs.Handler.{HandlerEvent, RequestContent, Handled, Noticed, Took, Transferred}
 use Rattle.dns_sockets.specs.Notices.{sooner}
-use Rattle.dns_sockets.specs.Rotation.{HasGoneOn}
+use Rattle.dns_sockets.specs.Rotation.{HasGoneOn, IsAsActive}
 use Rattle.dns_sockets.specs.Stream.{deadline, later_by}
 use Rattle.dns_sockets.specs.Trace.{Act, At, By, Connection, Nowhere, Socket}
 use Rattle.dns_sockets.specs.World.{WorldEvent, Accepted, Admitted, Clocked, Closed, Read, Received, Sent, Unreceived, Waited, Woken, Written}
@@ -133,3 +133,11 @@ wakes_for s index stream found =
     let sooner_is = sooner_first (earliest slot_deadline s.streams.slots.items) (first_moment s.waiting.items) in
     mins_first (sooner (earliest slot_deadline s.streams.slots.items) (first_moment s.waiting.items)) (earliest socket_deadline s.datagrams.items) (earliest listener_deadline s.listeners.items) (deadline stream)
     (omega (arith, least, sooner_is))
+
+-- one on which no bytes were moved for too long is closed
+pub closed_in_time : (old : Stream) (new : Option Stream) (now : ℕ) → later_by old.last_activity 10000 ≤ now → HasGoneOn now (Some new) → IsAsActive (Some (Some old)) (Some new)
+    → IfSome new (λ s. (s.wants_turn ≡ false) × (s.held.items ≡ [])) → new ≡ None
+closed_in_time old None now late gone same waits = refl
+closed_in_time old (Some s) now late gone same waits =
+    let early = subst (λ (moment : ℕ). now < later_by moment 10000) same (waits_are s now gone waits.0 waits.1) in
+    absurd (omega (arith, early, late))

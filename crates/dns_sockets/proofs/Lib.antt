@@ -25,3 +25,4 @@ pub mod NotedLaws
 pub mod ShareLaws
 pub mod BoundLaws
 pub mod BoundWitness
+pub mod ActivityLaws

@@ -33,6 +33,11 @@ abbrev pub HasGoneOn : ℕ → Option (Option Stream) → Type 0
 HasGoneOn now (Some (Some stream)) = (stream.wants_turn ≡ true) ⊎ (now < deadline stream)
 HasGoneOn now slot = ⊤
 
+-- the connection at a place was last active when it was before, if it is still there
+abbrev pub IsAsActive : Option (Option Stream) → Option (Option Stream) → Type 0
+IsAsActive (Some (Some old)) (Some (Some new)) = new.last_activity ≡ old.last_activity
+IsAsActive old new = ⊤
+
 -- So many turns are all of a table with so many places, or the clock, which was read before the first of them, showed that five milliseconds
 -- had passed after the last.
 abbrev pub HasShare : ℕ → ℕ → List Act → Type 0

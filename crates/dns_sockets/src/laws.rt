@@ -10,7 +10,7 @@ ghost use Rattle.dns_sockets.specs.Deadlines.{service_deadline};
 ghost use Rattle.dns_sockets.specs.Handler.{Handled, HandlerEvent, RequestContent};
 ghost use Rattle.dns_sockets.specs.Ledger.{AllPaid, Earns, Weight, replies, requests};
 ghost use Rattle.dns_sockets.specs.Moments.{HasArrived, IsDated, requests_in};
-ghost use Rattle.dns_sockets.specs.Rotation.{HasGoneOn, IsPlaceOf, places_of};
+ghost use Rattle.dns_sockets.specs.Rotation.{HasGoneOn, IsAsActive, IsPlaceOf, places_of};
 ghost use Rattle.dns_sockets.specs.Served.{IsServed};
 ghost use Rattle.dns_sockets.specs.StreamHistory.{HaveArrived, IsFront, handled_on, read_on, replied_on, written_on};
 ghost use Rattle.dns_sockets.specs.Sent.{IsGiven};
@@ -95,4 +95,14 @@ pub fn idle_connections_are_due()
     ensures wakes { (s : Service) (index : ℕ) (stream : Stream)
         → slice_get s.streams.slots.items index ≡ Some (Some stream)
         → service_deadline s ≤ deadline stream }
+{}
+
+/// A peer that sends a part of a frame, and then nothing, is closed in time: where a connection has its turn ten seconds after it was last
+/// active, or later, and no bytes are moved then, it is closed, unless it holds a reply or goes on again at once, as when the system
+/// interrupted each call.
+pub fn a_half_frame_is_closed_in_time()
+    ensures { (old : Stream) (new : Option Stream) (now : ℕ)
+        → later_by old.last_activity 10000 ≤ now → HasGoneOn now (Some new)
+        → IsAsActive (Some (Some old)) (Some new)
+        → IfSome new (λ s. (s.wants_turn ≡ false) × (s.held.items ≡ [])) → new ≡ None }
 {}

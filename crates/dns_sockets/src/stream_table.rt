@@ -6,9 +6,9 @@ ghost use Rattle.dns_sockets.specs.Events.{Performs};
 ghost use Rattle.dns_sockets.specs.Deadlines.{earliest, slot_deadline};
 ghost use Rattle.dns_sockets.specs.Connections.{AreFollowed, AreFollowedAside, AreKept};
 ghost use Rattle.dns_sockets.specs.Moments.{IsTimed};
-ghost use Rattle.dns_sockets.specs.Trace.{At, EndsWith, IsAside, IsAsideEvent, Traces};
+ghost use Rattle.dns_sockets.specs.Trace.{At, EndsWith, IsAside, IsAsideEvent, Traces, moved_in};
 ghost use Rattle.dns_sockets.specs.World as events;
-ghost use Rattle.dns_sockets.specs.Rotation.{HasGoneOn, HasShare, IsIdleAt, first_after, next_place};
+ghost use Rattle.dns_sockets.specs.Rotation.{HasGoneOn, HasShare, IsAsActive, IsIdleAt, first_after, next_place};
 ghost use Rattle.dns_sockets.specs.StreamTable.{IsFull, IsLeastActive, KeepsTurns, Vacates, closed_at, free_place, has_transfer, is_less_active, noted_at, transfers, transfers as transfers_of};
 
 use crate::clock::Milliseconds;
@@ -239,6 +239,12 @@ impl StreamTable {
             (next_place (length self.old.slots.items) self.old.first)) }
         ensures gone_on { result ≡ Ok true → HasGoneOn now.new (slice_get self.new.slots.items
             (next_place (length self.old.slots.items) self.old.first)) }
+        ensures active { IsAsActive (slice_get self.old.slots.items
+            (next_place (length self.old.slots.items) self.old.first))
+            (slice_get self.new.slots.items
+            (next_place (length self.old.slots.items) self.old.first))
+            ⊎ Traces W.performs H.steps world.old handler.old world.new handler.new
+            (λ acts. 0 < moved_in acts) }
         ensures others { (other : ℕ)
             → other ≢ next_place (length self.old.slots.items) self.old.first
             → slice_get self.new.slots.items other ≡ slice_get self.old.slots.items other }
@@ -274,6 +280,10 @@ impl StreamTable {
             → IsIdleAt now.old (slice_get self.old.slots.items index) }
         ensures gone_on { result ≡ Ok true
             → HasGoneOn now.new (slice_get self.new.slots.items index) }
+        ensures active { IsAsActive (slice_get self.old.slots.items index)
+            (slice_get self.new.slots.items index)
+            ⊎ Traces W.performs H.steps world.old handler.old world.new handler.new
+            (λ acts. 0 < moved_in acts) }
         ensures others { (other : ℕ) → other ≢ index
             → slice_get self.new.slots.items other ≡ slice_get self.old.slots.items other }
         ensures stays { result ≡ Ok false → self.new.slots.items ≡ self.old.slots.items }
