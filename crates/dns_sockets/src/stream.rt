@@ -284,7 +284,8 @@ impl Stream {
     fn wrote(&mut self, progress: Progress, now: Milliseconds) -> Step
         ensures written { connection_of self.new
             ≡ connection_of (record self.old { output = drop (moved progress) self.old.output }) }
-        ensures active { moved progress ≡ 0 → self.new.last_activity ≡ self.old.last_activity }
+        ensures active { moved progress ≡ 0
+            → self.new.last_activity ≡ self.old.last_activity }
     {
         match progress {
             Progress::Bytes(0) | Progress::Failed => Step::Closes,
@@ -557,7 +558,8 @@ impl Stream {
         ensures read { StaysUnless (ends result)
             (read_after (bytes_read progress buffer.now) (connection_of self.old))
             (connection_of self.new) }
-        ensures active { moved progress ≡ 0 → self.new.last_activity ≡ self.old.last_activity }
+        ensures active { moved progress ≡ 0
+            → self.new.last_activity ≡ self.old.last_activity }
     {
         match progress {
             Progress::Bytes(0) => {
