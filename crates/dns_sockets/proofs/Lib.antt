@@ -20,3 +20,9 @@ pub mod ServedLaws
 pub mod StreamHistoryLaws
 pub mod StreamOrderLaws
 pub mod StreamWitness
+pub mod ListenerLaws
+pub mod NotedLaws
+pub mod ShareLaws
+pub mod BoundLaws
+pub mod BoundWitness
+pub mod ActivityLaws

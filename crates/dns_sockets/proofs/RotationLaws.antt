@@ -2,7 +2,7 @@
 use Rattle.std.proofs.Common.{◌≡◌, ◌∙◌, ◌⊎◌, ◌+◌, ◌-◌, ◌<◌, ◌≤◌, inl, inr, zero, suc, Bool, true, false, ℕ, List, [], ◌∷◌, length, refl, sym, ap, subst, arith}
 use Rattle.std.proofs.lemmas.Bool.{ltb-false, ltb-true}
 use Rattle.std.specs.List.{AllByRecursion, Contains}
-use Rattle.std.specs.Prelude.{if◌then◌else◌, nat_lt, slice_set}
+use Rattle.std.specs.Prelude.{if◌then◌else◌, nat_lt, slice_get, slice_set, Some}
 use Rattle.dns_sockets.specs.Rotation.{IsPlaceOf, first_after, next_place, places_of}
 
 order : (m n : ℕ) → (m ≡ n) ⊎ ((m < n) ⊎ (n < m))
@@ -99,3 +99,17 @@ pub set_length : {A : Type 0} (xs : List A) (i : ℕ) (x : A) → length (slice_
 set_length [] i x = refl
 set_length (y ∷ ys) zero x = refl
 set_length (y ∷ ys) (suc i) x = ap suc (set_length ys i x)
+
+-- another place is as it was
+pub set_other : {A : Type 0} (xs : List A) (i other : ℕ) (x : A) → (other ≡ i → ⊥) → slice_get (slice_set xs i x) other ≡ slice_get xs other
+set_other [] i other x differ = refl
+set_other (y ∷ ys) zero zero x differ = absurd (differ refl)
+set_other (y ∷ ys) zero (suc other) x differ = refl
+set_other (y ∷ ys) (suc i) zero x differ = refl
+set_other (y ∷ ys) (suc i) (suc other) x differ = set_other ys i other x (λ same. differ (ap suc same))
+
+-- a place is set to what is there
+pub set_same : {A : Type 0} (xs : List A) (i : ℕ) (x : A) → slice_get xs i ≡ Some x → slice_set xs i x ≡ xs
+set_same [] i x found = refl
+set_same (y ∷ ys) zero x found = cc
+set_same {A} (y ∷ ys) (suc i) x found = ap (λ (zs : List A). y ∷ zs) (set_same ys i x found)

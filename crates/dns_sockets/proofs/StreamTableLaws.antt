@@ -1,10 +1,11 @@
 -- The connection that was active least recently, of those up to an index.
 use Rattle.std.proofs.Common.{◌≡◌, ◌<◌, ◌≤◌, ◌+◌, ◌⊎◌, inl, inr, ℕ, zero, suc, Bool, true, false, cond, add-zero, take, List, [], ◌∷◌, length, get_or, refl, sym, ap, subst, ◌∙◌, arith, Option, Some, None}
-use Rattle.std.specs.Prelude.{nat_lt, slice_get, IsSomeAnd}
+use Rattle.std.specs.Prelude.{nat_lt, option_map, slice_get, slice_set, IsSomeAnd}
 use Rattle.std.proofs.lemmas.Bool.{ltb-true, ltb-false, lt-ltb}
 use Rattle.dns_sockets.specs.declared.stream.Stream.{Stream}
 use Rattle.std.proofs.lemmas.List.Filters.{length-filter_more}
-use Rattle.dns_sockets.specs.StreamTable.{has_transfer, is_less_active, transfers}
+use Rattle.dns_sockets.specs.Stream.{noted}
+use Rattle.dns_sockets.specs.StreamTable.{has_transfer, is_less_active, noted_at, transfers}
 
 not_true : (b : Bool) → (b ≡ true → ⊥) → b ≡ false
 not_true true f = absurd (f refl)
@@ -113,3 +114,24 @@ one_more slots i count d inside is e =
 pub none_more : (slots : List (Option Stream)) (i count : ℕ) (d : Option Stream) → i < length slots → count ≡ transfers (take i slots) → false ≡ has_transfer (get_or slots i d) → count ≡ transfers (take (i + 1) slots)
 none_more slots i count d inside is e =
     is ∙ sym (add-zero (transfers (take i slots))) ∙ ap (λ (b : Bool). transfers (take i slots) + cond b 1 0) e ∙ sym (length-filter_more has_transfer slots i d inside)
+
+-- ---- what the system says
+
+-- a slot is changed at its place
+pub noted_here : (slots : List (Option Stream)) (i : ℕ) (r w : Bool) (slot : Option Stream) → slice_get slots i ≡ Some slot
+    → slice_set slots i (option_map (noted r w) slot) ≡ noted_at slots i r w
+noted_here [] i r w slot found = absurd (cc)
+noted_here (x ∷ xs) zero r w slot found = cc
+noted_here (x ∷ xs) (suc i) r w slot found = ap (λ (ys : List (Option Stream)). x ∷ ys) (noted_here xs i r w slot found)
+
+-- a place without a connection stays so
+pub noted_none : (slots : List (Option Stream)) (i : ℕ) (r w : Bool) (slot : Option Stream) → slice_get slots i ≡ Some slot → slot ≡ None
+    → slice_set slots i slot ≡ noted_at slots i r w
+noted_none slots i r w slot found none =
+    ap (slice_set slots i) (none ∙ sym (ap (option_map (noted r w)) none)) ∙ noted_here slots i r w slot found
+
+-- there is no such place
+pub noted_past : (slots : List (Option Stream)) (i : ℕ) (r w : Bool) → length slots ≤ i → slots ≡ noted_at slots i r w
+noted_past [] i r w past = refl
+noted_past (x ∷ xs) zero r w past = absurd (omega (arith, past))
+noted_past (x ∷ xs) (suc i) r w past = ap (λ (ys : List (Option Stream)). x ∷ ys) (noted_past xs i r w (omega (arith, past)))

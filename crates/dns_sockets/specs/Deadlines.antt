@@ -1,5 +1,5 @@
 -- When a service has something to do without an event, and how long it waits.
-use Rattle.std.specs.Prelude.{◌≡◌, ◌≢◌, ◌⊎◌, ◌-◌, min, ℕ, List, [], ◌∷◌, Option, Some, None}
+use Rattle.std.specs.Prelude.{◌≡◌, ◌≢◌, ◌⊎◌, ◌-◌, ◌++◌, min, ℕ, List, [], ◌∷◌, Option, Some, None}
 use Rattle.dns_sockets.specs.Notices.{sooner}
 use Rattle.dns_sockets.specs.Stream.{deadline}
 use Rattle.dns_sockets.specs.World.{WorldEvent, Clocked, Waited}
@@ -42,3 +42,7 @@ abbrev pub WaitsUntil : ℕ → List WorldEvent → Type 0
 WaitsUntil moment es =
     ((moment ≡ never) × (es ≡ Waited None ∷ []))
     ⊎ ((moment ≢ never) × ((es ≡ Clocked None ∷ []) ⊎ ((now : ℕ) × (es ≡ Clocked (Some now) ∷ Waited (Some (moment - now)) ∷ []))))
+
+-- events end with a wait
+abbrev pub EndsWithWait : List WorldEvent → Type 0
+EndsWithWait es = (before : List WorldEvent) × (most : Option ℕ) × (es ≡ before ++ Waited most ∷ [])

@@ -3,6 +3,8 @@ pub mod Connections
 pub mod StreamHistory
 pub mod StreamSteps
 pub mod StreamTable
+pub mod Listener
+pub mod Service
 pub mod Rotation
 pub mod Notices
 pub mod Output

@@ -1,6 +1,8 @@
 -- In which order the connections of a table have their turns.
-use Rattle.std.specs.Prelude.{◌≡◌, ◌+◌, ◌<◌, ◌≤◌, ◌⊎◌, nat_lt, if◌then◌else◌, true, ⊤, ℕ, zero, suc, List, [], ◌∷◌, Option, Some, None}
-use Rattle.dns_sockets.specs.Stream.{deadline}
+use Rattle.std.specs.Prelude.{◌≡◌, ◌+◌, ◌<◌, ◌≤◌, ◌⊎◌, nat_lt, if◌then◌else◌, true, ⊤, ℕ, zero, suc, List, [], ◌∷◌, Option, Some}
+use Rattle.dns_sockets.specs.Stream.{deadline, later_by}
+use Rattle.dns_sockets.specs.Trace.{Act, At, EndsWith, StartsWith}
+use Rattle.dns_sockets.specs.World.{Clocked}
 use Rattle.dns_sockets.specs.declared.stream.Stream.{Stream}
 
 -- the place whose turn comes, of so many: the one that is the first, or the place 0 if there is none such
@@ -30,3 +32,15 @@ IsIdleAt now slot = ⊤
 abbrev pub HasGoneOn : ℕ → Option (Option Stream) → Type 0
 HasGoneOn now (Some (Some stream)) = (stream.wants_turn ≡ true) ⊎ (now < deadline stream)
 HasGoneOn now slot = ⊤
+
+-- the connection at a place was last active when it was before, if it is still there
+abbrev pub IsAsActive : Option (Option Stream) → Option (Option Stream) → Type 0
+IsAsActive (Some (Some old)) (Some (Some new)) = new.last_activity ≡ old.last_activity
+IsAsActive old new = ⊤
+
+-- So many turns are all of a table with so many places, or the clock, which was read before the first of them, showed that five milliseconds
+-- had passed after the last.
+abbrev pub HasShare : ℕ → ℕ → List Act → Type 0
+HasShare turns count acts =
+    (start : ℕ) × (StartsWith (At (Clocked (Some start))) acts × ((turns ≡ count)
+    ⊎ ((end : ℕ) × ((later_by start 5 ≤ end) × EndsWith (At (Clocked (Some end))) acts))))

@@ -1,5 +1,5 @@
 -- The replies that a connection holds until their moments, and when it has something to do.
-use Rattle.std.specs.Prelude.{◌≡◌, ◌⊎◌, ◌+◌, ◌-◌, ◌^◌, min, nat_lt, if◌then◌else◌, ℕ, Bool, List, [], ◌∷◌, length, map, Option, Some, None}
+use Rattle.std.specs.Prelude.{◌≡◌, ◌⊎◌, ◌||◌, ◌+◌, ◌-◌, ◌^◌, min, nat_lt, if◌then◌else◌, ℕ, Bool, true, false, List, [], ◌∷◌, length, map, Option, Some, None}
 use Rattle.std.specs.Global.{Vec}
 use Rattle.dns_faults.specs.declared.delivery.Delivery.{Delivery}
 use Rattle.std.specs.declared.net.socket_addr.SocketAddr.{SocketAddr}
@@ -31,6 +31,24 @@ abbrev pub deadline : Stream → ℕ
 deadline s =
     if s.wants_turn then 0
     else first_moment (later_by s.last_activity 10000) (nat_lt 65537 (length s.output)) s.held.items
+
+-- a connection from a peer that was accepted at a moment: its socket may be readable and writable, and nothing was read or is to be written
+pub record IsNew (peer : SocketAddr) (now : ℕ) (s : Stream) : Type 0 where
+  pub peer_is : s.peer ≡ peer
+  pub active : s.last_activity ≡ now
+  pub input : s.connection.input ≡ []
+  pub held : s.held.items ≡ []
+  pub output : s.output ≡ []
+  pub open_is : (s.is_closing ≡ false) × (s.has_ended ≡ false)
+  pub ready : (s.readiness.read ≡ true) × (s.readiness.write ≡ true)
+  pub goes_on : (s.wants_turn ≡ true) × (s.is_transferring ≡ false)
+
+-- a connection once the system says what its socket is ready for: it goes on at once
+abbrev pub noted : Bool → Bool → Stream → Stream
+noted is_readable is_writable s = record s {
+  readiness = record { read = s.readiness.read || is_readable; write = s.readiness.write || is_writable };
+  wants_turn = true;
+}
 
 -- ---- requests
 

@@ -48,6 +48,7 @@ pub record KeepsBytes (old new : Stream) : Type 0 where
   pub input : new.connection.input ≡ old.connection.input
   pub output : new.output ≡ old.output
   pub is_closing : new.is_closing ≡ old.is_closing
+  pub active : new.last_activity ≡ old.last_activity
 
 -- all but what was read is as it was
 pub record KeepsReplies (old new : Stream) : Type 0 where
@@ -55,6 +56,7 @@ pub record KeepsReplies (old new : Stream) : Type 0 where
   pub held : new.held.items ≡ old.held.items
   pub output : new.output ≡ old.output
   pub is_closing : new.is_closing ≡ old.is_closing
+  pub active : new.last_activity ≡ old.last_activity
 
 -- ---- steps
 

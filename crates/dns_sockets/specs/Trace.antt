@@ -1,5 +1,5 @@
 -- What a service does: what happens between it and the world, and what its handler does, in order.
-use Rattle.std.specs.Prelude.{◌≡◌, ◌⊎◌, ℕ, List, [], ◌∷◌, ⊤, Option}
+use Rattle.std.specs.Prelude.{◌≡◌, ◌⊎◌, ◌+◌, ◌++◌, ℕ, List, [], ◌∷◌, ⊤, length, Option, Some}
 use Rattle.dns_sockets.specs.Events.{Led}
 use Rattle.dns_sockets.specs.Handler.{HandlerEvent}
 use Rattle.dns_sockets.specs.World.{WorldEvent, Clocked, Read, Received, Sent, Unreceived, Waited, Woken, Written}
@@ -38,6 +38,35 @@ pub record Consults {S H : Type 0} (performs : S → WorldEvent → S → Type 0
   pub led : Led performs world events new
   pub called : Led steps handler calls after
   pub holds : P events calls
+
+-- acts begin with this one
+abbrev pub StartsWith : Act → List Act → Type 0
+StartsWith act acts = (rest : List Act) × (acts ≡ act ∷ rest)
+
+-- acts end with this one
+abbrev pub EndsWith : Act → List Act → Type 0
+EndsWith act acts = (before : List Act) × (acts ≡ before ++ act ∷ [])
+
+-- how often a service waits in an act: once or not at all
+abbrev pub waits_of : Act → ℕ
+waits_of (At (Waited most)) = 1
+waits_of act = 0
+
+-- how often it waits in acts
+abbrev pub waits_in : List Act → ℕ
+waits_in [] = 0
+waits_in (act ∷ acts) = waits_of act + waits_in acts
+
+-- how many bytes were read or written in an act
+abbrev pub moved_of : Act → ℕ
+moved_of (At (Read stream (Some bytes))) = length bytes
+moved_of (At (Written stream bytes)) = length bytes
+moved_of act = 0
+
+-- how many were in acts
+abbrev pub moved_in : List Act → ℕ
+moved_in [] = 0
+moved_in (act ∷ acts) = moved_of act + moved_in acts
 
 -- ---- what is no datagram
 

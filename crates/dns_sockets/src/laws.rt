@@ -1,20 +1,24 @@
 //! Theorems about the definitions of this crate, as functions with empty bodies.
 
 ghost use Rattle.std.specs.List.{AllByRecursion, Contains};
-ghost use Rattle.std.specs.Prelude.{◌≡◌, ◌<◌, ◌≤◌, length, [], ◌∷◌, ◌++◌, slice_get, true, ℕ, List, Option, Some};
+ghost use Rattle.std.specs.Prelude.{◌≡◌, ◌<◌, ◌≤◌, length, [], ◌∷◌, ◌++◌, slice_get, true, false, ℕ, IfSome, List, None, Option, Some};
 ghost use Rattle.std.specs.declared.net.socket_addr.SocketAddr.{SocketAddr};
 ghost use Rattle.dns_faults.specs.declared.delivery.Delivery.{Delivery};
-ghost use Rattle.dns_sockets.specs.Connections.{AreFollowed};
+ghost use Rattle.dns_server.specs.Connection.{max_input_len};
+ghost use Rattle.dns_sockets.specs.Connections.{AreFollowed, Connected, Follows, Place, connection_at};
+ghost use Rattle.dns_sockets.specs.Deadlines.{service_deadline};
 ghost use Rattle.dns_sockets.specs.Handler.{Handled, HandlerEvent, RequestContent};
 ghost use Rattle.dns_sockets.specs.Ledger.{AllPaid, Earns, Weight, replies, requests};
 ghost use Rattle.dns_sockets.specs.Moments.{HasArrived, IsDated, requests_in};
-ghost use Rattle.dns_sockets.specs.Rotation.{IsPlaceOf, places_of};
+ghost use Rattle.dns_sockets.specs.Rotation.{HasGoneOn, IsAsActive, IsPlaceOf, places_of};
 ghost use Rattle.dns_sockets.specs.Served.{IsServed};
 ghost use Rattle.dns_sockets.specs.StreamHistory.{HaveArrived, IsFront, handled_on, read_on, replied_on, written_on};
 ghost use Rattle.dns_sockets.specs.Sent.{IsGiven};
+ghost use Rattle.dns_sockets.specs.Stream.{deadline, later_by};
 ghost use Rattle.dns_sockets.specs.Trace.{Act, At, By, Origin, Socket};
 ghost use Rattle.dns_sockets.specs.World.{Sent};
 ghost use Rattle.dns_sockets.specs.declared.datagrams.WaitingReply.{WaitingReply};
+ghost use Rattle.dns_sockets.specs.declared.service.Service.{Service};
 ghost use Rattle.dns_sockets.specs.declared.stream.Stream.{Stream};
 ghost use Rattle.dns_sockets.specs.schedule.Schedule.{Waiting};
 
@@ -70,4 +74,35 @@ pub fn each_place_has_its_turn()
     ensures { (first place most : ℕ) (counts : List ℕ) → place < most
         → AllByRecursion (IsPlaceOf place most) counts → most ≤ length counts
         → Contains (places_of first counts) place }
+{}
+
+/// A service that began without connections holds at most 65,537 bytes of each peer's requests that are not handled yet, whatever part of
+/// a frame a peer has sent: as many as the longest frame has (RFC 1035 section 4.2.2).
+pub fn unhandled_bytes_are_bounded()
+    ensures place { (index : ℕ) (accepted : Option SocketAddr) (acts : List Act) (left : Place)
+        → Follows index (record { accepted = accepted; connection = None }) acts left
+        → IfSome left.connection (λ c. length c.unhandled ≤ max_input_len) }
+    ensures service { (new : List (Option Stream)) (acts : List Act) → AreFollowed [] new acts
+        → (index : ℕ) → IfSome (connection_at new index)
+        (λ c. length c.unhandled ≤ max_input_len) }
+{}
+
+/// A connection that holds no reply and waits for its peer was last active less than ten seconds before its turn, or it was closed at that
+/// turn. And the service waits for events no longer than until it has to have its next turn.
+pub fn idle_connections_are_due()
+    ensures waits { (s : Stream) (now : ℕ) → HasGoneOn now (Some (Some s))
+        → s.wants_turn ≡ false → s.held.items ≡ [] → now < later_by s.last_activity 10000 }
+    ensures wakes { (s : Service) (index : ℕ) (stream : Stream)
+        → slice_get s.streams.slots.items index ≡ Some (Some stream)
+        → service_deadline s ≤ deadline stream }
+{}
+
+/// A peer that sends a part of a frame, and then nothing, is closed in time: where a connection has its turn ten seconds after it was last
+/// active, or later, and no bytes are moved then, it is closed, unless it holds a reply or goes on again at once, as when the system
+/// interrupted each call.
+pub fn a_half_frame_is_closed_in_time()
+    ensures { (old : Stream) (new : Option Stream) (now : ℕ)
+        → later_by old.last_activity 10000 ≤ now → HasGoneOn now (Some new)
+        → IsAsActive (Some (Some old)) (Some new)
+        → IfSome new (λ s. (s.wants_turn ≡ false) × (s.held.items ≡ [])) → new ≡ None }
 {}

@@ -5,6 +5,8 @@ ghost use Rattle.std.specs.Prelude.{◌≡◌, map};
 ghost use Rattle.dns_sockets.specs.Connections.{AreFollowed, IsAdmitted};
 ghost use Rattle.dns_sockets.specs.Deadlines.{earliest, listener_deadline};
 ghost use Rattle.dns_sockets.specs.Events.{Performs};
+ghost use Rattle.dns_sockets.specs.Listener.{Accepts, Admits, IsAttempt};
+ghost use Rattle.dns_sockets.specs.StreamTable.{KeepsTurns};
 ghost use Rattle.dns_sockets.specs.Trace.{At, IsAsideEvent};
 
 use crate::clock::Milliseconds;
@@ -58,9 +60,12 @@ impl Listener {
         streams: &mut StreamTable,
         now: Milliseconds,
     )
-        ensures { Performs W.performs world.old world.new (λ es.
+        ensures followed { Performs W.performs world.old world.new (λ es.
             AllByRecursion IsAsideEvent es
             × AreFollowed streams.old.slots.items streams.new.slots.items (map At es)) }
+        ensures accepts { Performs W.performs world.old world.new (λ es.
+            Accepts index now self.old streams.old es self.new streams.new) }
+        ensures turns { KeepsTurns streams.old streams.new }
     {
         if now < self.ready_at {
             return;
@@ -81,9 +86,12 @@ impl Listener {
         streams: &mut StreamTable,
         now: Milliseconds,
     ) -> bool
-        ensures { Performs W.performs world.old world.new (λ es.
+        ensures followed { Performs W.performs world.old world.new (λ es.
             AllByRecursion IsAsideEvent es
             × AreFollowed streams.old.slots.items streams.new.slots.items (map At es)) }
+        ensures attempt { Performs W.performs world.old world.new (λ es.
+            IsAttempt index now self.old streams.old es self.new streams.new result) }
+        ensures turns { KeepsTurns streams.old streams.new }
     {
         match world.accept(index) {
             Arrival::Connection(peer) => {
@@ -124,9 +132,12 @@ fn admit<W: World>(
     peer: SocketAddr,
     now: Milliseconds,
 )
-    ensures { Performs W.performs world.old world.new (λ es.
+    ensures followed { Performs W.performs world.old world.new (λ es.
         AllByRecursion IsAsideEvent es
         × IsAdmitted peer streams.old.slots.items streams.new.slots.items (map At es)) }
+    ensures admits { Performs W.performs world.old world.new (λ es.
+        Admits peer now streams.old streams.new es) }
+    ensures turns { KeepsTurns streams.old streams.new }
 {
     if let Some(index) = streams.vacate(world) {
         if world.admit(index) {

@@ -1,6 +1,6 @@
 //! The bytes that wait to be written on a connection.
 
-ghost use Rattle.std.specs.Prelude.{◌≡◌, ◌≤◌, ◌<◌, ◌++◌, ◌↔◌, [], drop, length, take, IsTrue, OnErr, OnOk};
+ghost use Rattle.std.specs.Prelude.{◌≡◌, ◌≤◌, ◌<◌, ◌++◌, ◌↔◌, [], drop, length, take, IsOk, IsTrue, OnErr, OnOk};
 ghost use Rattle.dns_message_bytes.specs.frames.Frame.{frame};
 ghost use Rattle.dns_sockets.specs.Output.{added};
 
@@ -65,6 +65,7 @@ impl Output {
     pub(crate) fn push(&mut self, reply: &[u8], most: Option<usize>) -> Result<(), AllocError>
         ensures ok { OnOk result (self.new ≡ self.old ++ added most reply.now) }
         ensures err { OnErr result (self.new ≡ self.old) }
+        ensures long { 65535 < length reply.now → IsOk result × (self.new ≡ self.old) }
     {
         if reply.len() > MAX_MESSAGE_LEN {
             return Ok(());

@@ -1,13 +1,16 @@
 //! The state of a service, and its loop.
 
 ghost use Rattle.std.specs.List.{AllByRecursion};
-ghost use Rattle.std.specs.Prelude.{◌≡◌, [], IfOk, map};
+ghost use Rattle.std.specs.Prelude.{◌≡◌, ◌<◌, ◌≤◌, [], true, IfOk, Ok, OnOk, length, map};
 ghost use Rattle.dns_sockets.specs.Events.{Performs};
 ghost use Rattle.dns_sockets.specs.Connections.{AreFollowed, AreKept};
-ghost use Rattle.dns_sockets.specs.Deadlines.{WaitsUntil, service_deadline};
+ghost use Rattle.dns_sockets.specs.Deadlines.{EndsWithWait, WaitsUntil, service_deadline};
 ghost use Rattle.dns_sockets.specs.Notices.{sooner};
+ghost use Rattle.dns_sockets.specs.Listener.{AcceptsAll, AcceptsAt};
 ghost use Rattle.dns_sockets.specs.Served.{IsServed};
-ghost use Rattle.dns_sockets.specs.Trace.{At, IsAsideEvent, IsQuiet, Traces};
+ghost use Rattle.dns_sockets.specs.Service.{IsOver, Notes, StartsTurn, is_over, known_of, noted_by, over};
+ghost use Rattle.dns_sockets.specs.StreamTable.{KeepsTurns};
+ghost use Rattle.dns_sockets.specs.Trace.{At, EndsWith, IsAsideEvent, IsQuiet, Traces, waits_in};
 
 use crate::clock::Milliseconds;
 use crate::datagrams::{DatagramSocket, WaitingReply, earliest_socket, send_due};
@@ -85,9 +88,11 @@ impl Service {
     ///
     /// An error of the clock or of the wait for events, which have none on a sound system.
     pub fn run<W: World, H: Handler>(&mut self, world: &mut W, handler: &mut H) -> io::Result<()>
-        ensures { Traces W.performs H.steps world.old handler.old world.new handler.new
+        ensures served { Traces W.performs H.steps world.old handler.old world.new handler.new
             (IsServed self.old.waiting.items self.old.streams.slots.items
             self.new.waiting.items self.new.streams.slots.items) }
+        ensures over { OnOk result (Traces W.performs H.steps world.old handler.old
+            world.new handler.new IsOver) }
     {
         for _turn in 0..u64::MAX {
             if self.turn(world, handler)? {
@@ -99,9 +104,15 @@ impl Service {
 
     /// Waits until there is something to do, and does it. Returns `true` if the service is to end.
     fn turn<W: World, H: Handler>(&mut self, world: &mut W, handler: &mut H) -> io::Result<bool>
-        ensures { Traces W.performs H.steps world.old handler.old world.new handler.new
+        ensures served { Traces W.performs H.steps world.old handler.old world.new handler.new
             (IsServed self.old.waiting.items self.old.streams.slots.items
             self.new.waiting.items self.new.streams.slots.items) }
+        ensures over { result ≡ Ok true → Traces W.performs H.steps world.old handler.old
+            world.new handler.new (EndsWith over) }
+        ensures waits { OnOk result (Traces W.performs H.steps world.old handler.old
+            world.new handler.new (λ acts. 1 ≤ waits_in acts)) }
+        ensures starts { IfOk result (λ ends. Traces W.performs H.steps world.old handler.old
+            world.new handler.new (StartsTurn ends (known_of self.old))) }
     {
         self.wait(world, handler.next_moment())?;
         if self.note_all(world) {
@@ -117,6 +128,7 @@ impl Service {
         ensures quiet { Performs W.performs world.old world.new (AllByRecursion IsQuiet) }
         ensures until { Performs W.performs world.old world.new
             (WaitsUntil (sooner (service_deadline self.now) moment)) }
+        ensures waited { OnOk result (Performs W.performs world.old world.new EndsWithWait) }
     {
         let deadline = sooner(self.deadline(), moment);
         if deadline == Milliseconds::MAX {
@@ -140,38 +152,46 @@ impl Service {
         ensures world { Performs W.performs world.old world.new (AllByRecursion IsQuiet) }
         ensures waiting { self.new.waiting ≡ self.old.waiting }
         ensures streams { AreKept self.old.streams.slots.items self.new.streams.slots.items }
+        ensures notes { Performs W.performs world.old world.new (λ es.
+            Notes result (known_of self.old) es (known_of self.new)) }
+        ensures turns { KeepsTurns self.old.streams self.new.streams }
     {
         for _wake in 0..u64::MAX {
-            match world.next_wake() {
-                None => return false,
-                Some(Wake::End) => return true,
-                Some(wake) => self.note(wake),
+            let Some(wake) = world.next_wake() else {
+                return false;
+            };
+            if self.note(wake) {
+                return true;
             }
         }
         false
     }
 
-    /// Takes note of what a socket may be ready for.
-    fn note(&mut self, wake: Wake)
+    /// Takes note of what a socket may be ready for. Returns `true` if the service is to end.
+    fn note(&mut self, wake: Wake) -> bool
+        ensures over { result ≡ is_over wake }
         ensures waiting { self.new.waiting ≡ self.old.waiting }
         ensures streams { AreKept self.old.streams.slots.items self.new.streams.slots.items }
+        ensures noted { known_of self.new ≡ noted_by wake (known_of self.old) }
+        ensures turns { KeepsTurns self.old.streams self.new.streams }
     {
         match wake {
             Wake::Datagrams(index) => {
-                if let Some(socket) = self.datagrams.as_mut_slice().get_mut(index) {
-                    socket.note();
+                if index < self.datagrams.len() {
+                    self.datagrams[index].note();
                 }
             }
             Wake::Listener(index) => {
-                if let Some(listener) = self.listeners.as_mut_slice().get_mut(index) {
-                    listener.note();
+                if index < self.listeners.len() {
+                    self.listeners[index].note();
                 }
             }
             Wake::Stream(index, is_readable, is_writable) => {
                 self.streams.note(index, is_readable, is_writable);
             }
-            Wake::End => {}
+            Wake::End => return true,
         }
+        false
     }
 
     /// Lets each socket do what it can without waiting, up to its share.
@@ -239,6 +259,10 @@ impl Service {
             AllByRecursion IsAsideEvent es × AreFollowed self.old.streams.slots.items
             self.new.streams.slots.items (map At es)) }
         ensures waiting { self.new.waiting ≡ self.old.waiting }
+        ensures accepts { Performs W.performs world.old world.new (λ es.
+            AcceptsAll now self.old.listeners.items self.old.streams
+            (length self.old.listeners.items) es self.new.listeners.items self.new.streams) }
+        ensures datagrams { self.new.datagrams.items ≡ self.old.datagrams.items }
     {
         for index in 0..self.listeners.len() {
             self.accept_at(world, index, now);
@@ -251,9 +275,15 @@ impl Service {
             AllByRecursion IsAsideEvent es × AreFollowed self.old.streams.slots.items
             self.new.streams.slots.items (map At es)) }
         ensures waiting { self.new.waiting ≡ self.old.waiting }
+        ensures accepts { index < length self.old.listeners.items
+            → Performs W.performs world.old world.new (λ es.
+            AcceptsAt index now self.old.listeners.items self.old.streams es
+            self.new.listeners.items self.new.streams) }
+        ensures datagrams { self.new.datagrams.items ≡ self.old.datagrams.items }
+        ensures count { length self.new.listeners.items ≡ length self.old.listeners.items }
     {
-        if let Some(listener) = self.listeners.as_mut_slice().get_mut(index) {
-            listener.accept(world, self.alloc, index, &mut self.streams, now);
+        if index < self.listeners.len() {
+            self.listeners[index].accept(world, self.alloc, index, &mut self.streams, now);
         }
     }
 }

@@ -1,6 +1,6 @@
 //! The sockets of the system: the world of a service over a network.
 
-ghost use Rattle.std.specs.Prelude.{◌≡◌, IfOk, OnErr};
+ghost use Rattle.std.specs.Prelude.{◌≡◌, ◌+◌, [], IfOk, OnErr, OnOk, length};
 ghost use Rattle.dns_sockets.specs.World.{moved as moved_by};
 ghost use Rattle.dns_sockets.specs.declared.world.Progress.TheVariants as progresses;
 
@@ -63,8 +63,11 @@ impl<R: Net + Clock + Input> Drop for SocketWorld<'_, R> {
 }
 
 impl<'a, R: Net + Clock + Input> SocketWorld<'a, R> {
-    /// Creates a world without sockets, whose clock begins at 0.
-    pub fn new(rt: &'a R, alloc: Global) -> io::Result<SocketWorld<'a, R>> {
+    /// Creates a world without sockets, whose clock begins at 0. What the system's clock and poll do, no clause says.
+    pub fn new(rt: &'a R, alloc: Global) -> io::Result<SocketWorld<'a, R>>
+        ensures { IfOk result (λ world. (world.datagrams.items ≡ [])
+            × ((world.listeners.items ≡ []) × (world.streams.items ≡ []))) }
+    {
         Ok(SocketWorld {
             rt,
             poll: Poll::new(rt)?,
@@ -80,8 +83,14 @@ impl<'a, R: Net + Clock + Input> SocketWorld<'a, R> {
     }
 
     /// Opens a datagram socket and a listener at an address, and returns it. At port 0, both have a port that the system chooses. Their
-    /// index is the number of those that were opened before.
-    pub fn listen(&mut self, address: SocketAddr) -> io::Result<SocketAddr> {
+    /// index is the number of those that were opened before. Which addresses the system binds, no clause says.
+    pub fn listen(&mut self, address: SocketAddr) -> io::Result<SocketAddr>
+        ensures datagrams { OnOk result (length self.new.datagrams.items
+            ≡ length self.old.datagrams.items + 1) }
+        ensures listeners { OnOk result (length self.new.listeners.items
+            ≡ length self.old.listeners.items + 1) }
+        ensures streams { self.new.streams ≡ self.old.streams }
+    {
         let (mut datagrams, mut listener) = bind_both(self.rt, address)?;
         let address = datagrams.local_addr()?;
         let index = self.datagrams.len();
@@ -102,8 +111,12 @@ impl<'a, R: Net + Clock + Input> SocketWorld<'a, R> {
         Ok(address)
     }
 
-    /// Ends the service when standard input ends, or at once if it cannot be waited for.
-    pub fn end_with_input(&mut self) {
+    /// Ends the service when standard input ends, or at once if it cannot be waited for. Which of both, no clause says.
+    pub fn end_with_input(&mut self)
+        ensures datagrams { self.new.datagrams ≡ self.old.datagrams }
+        ensures listeners { self.new.listeners ≡ self.old.listeners }
+        ensures streams { self.new.streams ≡ self.old.streams }
+    {
         self.is_over = !watch_input(self.poll.registry());
     }
 

@@ -7,11 +7,11 @@ ghost use Rattle.dns_sockets.specs.Events.{Performs};
 ghost use Rattle.dns_sockets.specs.Connections.{connected, connection_of, read_after};
 ghost use Rattle.dns_sockets.specs.StreamSteps.{AreTaken, CallsLeave, IsAnswered, IsReady, KeepsBytes, KeepsReplies, Leaves, StaysUnless, bytes_read, ends, ends_if, is_end, released};
 ghost use Rattle.dns_sockets.specs.Moments.{IsTimed};
-ghost use Rattle.dns_sockets.specs.Trace.{At, Consults, IsOfStream, MayRead, Traces};
+ghost use Rattle.dns_sockets.specs.Trace.{At, Consults, IsOfStream, MayRead, Traces, moved_in};
 ghost use Rattle.dns_sockets.specs.World.{Clocked, IsWithin, moved, write_event};
 ghost use Rattle.dns_sockets.specs.declared.world.Progress.{Progress};
 ghost use Rattle.dns_sockets.specs.Handler.{message_bytes, request_content};
-ghost use Rattle.dns_sockets.specs.Stream.{Answers, AnswersAt, AreAnswered, AreHandled, deadline, held_message, held_reply, stream_request};
+ghost use Rattle.dns_sockets.specs.Stream.{Answers, AnswersAt, AreAnswered, AreHandled, IsNew, deadline, held_message, held_reply, noted, stream_request};
 ghost use Rattle.dns_sockets.specs.StreamTable.{is_transferring};
 
 use crate::clock::Milliseconds;
@@ -128,7 +128,8 @@ impl Drop for Stream {
 impl Stream {
     /// Creates the state of a connection that a listener has accepted.
     pub(crate) fn new(alloc: Global, peer: SocketAddr, now: Milliseconds) -> Stream
-        ensures { connection_of result ≡ connected peer }
+        ensures connected { connection_of result ≡ connected peer }
+        ensures fresh { IsNew peer now result }
     {
         Stream {
             alloc,
@@ -150,7 +151,8 @@ impl Stream {
 
     /// Takes note of what the system says that the socket is ready for.
     pub(crate) fn note(&mut self, is_readable: bool, is_writable: bool)
-        ensures { connection_of self.new ≡ connection_of self.old }
+        ensures kept { connection_of self.new ≡ connection_of self.old }
+        ensures noted { self.new ≡ noted is_readable is_writable self.old }
     {
         self.readiness.read = self.readiness.read || is_readable;
         self.readiness.write = self.readiness.write || is_writable;
@@ -206,6 +208,9 @@ impl Stream {
             × IsTimed acts) }
         ensures in_time { result ≡ Ok false
             → (self.new.wants_turn ≡ true) ⊎ (now.new < deadline self.new) }
+        ensures active { (self.new.last_activity ≡ self.old.last_activity)
+            ⊎ Traces W.performs H.steps world.old handler.old world.new handler.new
+            (λ acts. 0 < moved_in acts) }
     {
         for _step in 0..MAX_STEPS {
             match self.step(world, index, handler, buffer, now, is_busy)? {
@@ -231,10 +236,13 @@ impl Stream {
         now: &mut Milliseconds,
         is_busy: bool,
     ) -> io::Result<Step>
-        ensures { Traces W.performs H.steps world.old handler.old world.new handler.new
+        ensures acts { Traces W.performs H.steps world.old handler.old world.new handler.new
             (λ acts. AllByRecursion (IsOfStream index) acts
             × Leaves (ends_if result) index (connection_of self.old) acts (connection_of self.new)
             × IsTimed acts) }
+        ensures active { (self.new.last_activity ≡ self.old.last_activity)
+            ⊎ Traces W.performs H.steps world.old handler.old world.new handler.new
+            (λ acts. 0 < moved_in acts) }
     {
         let has_output = !self.output.rest().is_empty();
         if has_output && self.readiness.write {
@@ -261,10 +269,12 @@ impl Stream {
 
     /// Writes bytes that wait.
     fn write<W: World>(&mut self, world: &mut W, index: usize, now: Milliseconds) -> Step
-        ensures { (progress : Progress) × (W.performs world.old
+        ensures write { (progress : Progress) × (W.performs world.old
             (write_event index progress self.old.output) world.new
             × ((moved progress ≤ length self.old.output) × (connection_of self.new
             ≡ connection_of (record self.old { output = drop (moved progress) self.old.output })))) }
+        ensures active { (self.new.last_activity ≡ self.old.last_activity)
+            ⊎ Performs W.performs world.old world.new (λ es. 0 < moved_in (map At es)) }
     {
         let progress = world.write(index, self.output.rest());
         self.wrote(progress, now)
@@ -272,8 +282,10 @@ impl Stream {
 
     /// Takes note of what came of a write.
     fn wrote(&mut self, progress: Progress, now: Milliseconds) -> Step
-        ensures { connection_of self.new
+        ensures written { connection_of self.new
             ≡ connection_of (record self.old { output = drop (moved progress) self.old.output }) }
+        ensures active { moved progress ≡ 0
+            → self.new.last_activity ≡ self.old.last_activity }
     {
         match progress {
             Progress::Bytes(0) | Progress::Failed => Step::Closes,
@@ -299,10 +311,11 @@ impl Stream {
         is_busy: bool,
     ) -> io::Result<Step>
         requires { IsReady self.old }
-        ensures { Consults W.performs H.steps world.old handler.old world.new handler.new
+        ensures answers { Consults W.performs H.steps world.old handler.old world.new handler.new
             (λ clocks calls. (shown : Option ℕ) × ((clocks ≡ Clocked shown ∷ [])
             × (AnswersAt shown is_busy self.old.peer calls × CallsLeave (ends_if result)
             (connection_of self.old) calls (connection_of self.new)))) }
+        ensures active { self.new.last_activity ≡ self.old.last_activity }
     {
         let moment = world.now()?;
         let answered = self.answer(handler, moment, is_busy);
@@ -322,9 +335,10 @@ impl Stream {
         is_busy: bool,
     ) -> Result<(), AllocError>
         requires { IsReady self.old }
-        ensures { Performs H.steps handler.old handler.new (λ calls.
+        ensures calls { Performs H.steps handler.old handler.new (λ calls.
             Answers is_busy self.old.peer now calls
             × CallsLeave (is_err result) (connection_of self.old) calls (connection_of self.new)) }
+        ensures active { self.new.last_activity ≡ self.old.last_activity }
     {
         let gathered = self.gather(handler)?;
         let requests = requests_of(self.alloc, gathered.as_slice(), self.peer, now)?;
@@ -448,7 +462,8 @@ impl Stream {
 
     /// Takes the held replies to the bytes that wait to be written, as far as their moments have come and there is room.
     fn release(&mut self, now: Milliseconds) -> Step
-        ensures { StaysUnless (ends result) (connection_of self.old) (connection_of self.new) }
+        ensures stays { StaysUnless (ends result) (connection_of self.old) (connection_of self.new) }
+        ensures active { self.new.last_activity ≡ self.old.last_activity }
     {
         let mut released = Step::Waits;
         for _reply in 0..MAX_BATCH {
@@ -483,7 +498,8 @@ impl Stream {
     /// Takes a reply to the bytes that wait to be written.
     fn reply(&mut self, held: HeldReply) -> Step
         requires { self.old.is_closing ≡ false }
-        ensures { StaysUnless (ends result) (released held self.old) (connection_of self.new) }
+        ensures released { StaysUnless (ends result) (released held self.old) (connection_of self.new) }
+        ensures active { self.new.last_activity ≡ self.old.last_activity }
     {
         let HeldReply {
             moment: _moment,
@@ -514,9 +530,11 @@ impl Stream {
         now: Milliseconds,
     ) -> Step
         requires { IsReady self.old }
-        ensures { Performs W.performs world.old world.new (λ es. MayRead index es
+        ensures reads { Performs W.performs world.old world.new (λ es. MayRead index es
             × Leaves (ends result) index (connection_of self.old) (map At es)
             (connection_of self.new)) }
+        ensures active { (self.new.last_activity ≡ self.old.last_activity)
+            ⊎ Performs W.performs world.old world.new (λ es. 0 < moved_in (map At es)) }
     {
         if self.has_ended {
             return if self.output.rest().is_empty() {
@@ -537,9 +555,11 @@ impl Stream {
     fn read(&mut self, progress: Progress, buffer: &[u8], now: Milliseconds) -> Step
         requires room { length self.old.connection.input + length buffer.now ≤ max_input_len }
         requires within { IsWithin progress (length buffer.now) }
-        ensures { StaysUnless (ends result)
+        ensures read { StaysUnless (ends result)
             (read_after (bytes_read progress buffer.now) (connection_of self.old))
             (connection_of self.new) }
+        ensures active { moved progress ≡ 0
+            → self.new.last_activity ≡ self.old.last_activity }
     {
         match progress {
             Progress::Bytes(0) => {

@@ -1,15 +1,15 @@
 //! The connections of a service.
 
-ghost use Rattle.std.specs.Prelude.{◌≡◌, ◌<◌, ◌+◌, ◌++◌, [], ◌∷◌, true, false, IfSome, None, Ok, OnOk, Some, length, map, slice_get, slice_set, ℕ};
+ghost use Rattle.std.specs.Prelude.{◌≡◌, ◌≢◌, ◌⊎◌, ◌≤◌, ◌<◌, ◌+◌, ◌++◌, [], ◌∷◌, true, false, IfSome, None, Ok, OnOk, Some, length, map, slice_get, slice_set, ℕ};
 ghost use Rattle.std.specs.List.{AllByRecursion};
 ghost use Rattle.dns_sockets.specs.Events.{Performs};
 ghost use Rattle.dns_sockets.specs.Deadlines.{earliest, slot_deadline};
 ghost use Rattle.dns_sockets.specs.Connections.{AreFollowed, AreFollowedAside, AreKept};
 ghost use Rattle.dns_sockets.specs.Moments.{IsTimed};
-ghost use Rattle.dns_sockets.specs.Trace.{At, IsAside, IsAsideEvent, Traces};
+ghost use Rattle.dns_sockets.specs.Trace.{At, EndsWith, IsAside, IsAsideEvent, Traces, moved_in};
 ghost use Rattle.dns_sockets.specs.World as events;
-ghost use Rattle.dns_sockets.specs.Rotation.{HasGoneOn, IsIdleAt, first_after, next_place};
-ghost use Rattle.dns_sockets.specs.StreamTable.{IsLeastActive, closed_at, has_transfer, is_less_active, transfers};
+ghost use Rattle.dns_sockets.specs.Rotation.{HasGoneOn, HasShare, IsAsActive, IsIdleAt, first_after, next_place};
+ghost use Rattle.dns_sockets.specs.StreamTable.{IsFull, IsLeastActive, KeepsTurns, Vacates, closed_at, free_place, has_transfer, is_less_active, noted_at, transfers, transfers as transfers_of};
 
 use crate::clock::Milliseconds;
 use crate::handler::Handler;
@@ -63,6 +63,9 @@ impl StreamTable {
             × AreFollowedAside self.old.slots.items self.new.slots.items (map At es)) }
         ensures vacant { IfSome result (λ index.
             slice_get self.new.slots.items index ≡ Some None) }
+        ensures vacates { Performs W.performs world.old world.new (λ es.
+            Vacates self.old self.new es result) }
+        ensures turns { KeepsTurns self.old self.new }
     {
         if let Some(slot) = self.free_slot() {
             return Some(slot);
@@ -83,13 +86,16 @@ impl StreamTable {
         ensures grown { result ≡ true
             → self.new.slots.items ≡ self.old.slots.items ++ None ∷ [] }
         ensures full { result ≡ false → self.new.slots.items ≡ self.old.slots.items }
+        ensures refused { result ≡ false → IsFull self.old }
+        ensures turns { KeepsTurns self.old self.new }
     {
         self.slots.len() < self.capacity && self.slots.push(None).is_ok()
     }
 
     /// Returns the first index at which there is no connection.
     fn free_slot(&self) -> Option<usize>
-        ensures { IfSome result (λ index. slice_get self.now.slots.items index ≡ Some None) }
+        ensures free { IfSome result (λ index. slice_get self.now.slots.items index ≡ Some None) }
+        ensures first { result ≡ free_place self.now.slots.items }
     {
         self.slots.as_slice().iter().position(|slot| slot.is_none())
     }
@@ -99,6 +105,7 @@ impl StreamTable {
         ensures world { W.performs world.old (events.Closed result) world.new }
         ensures oldest { IsLeastActive self.old.slots.items result }
         ensures closed { self.new.slots.items ≡ closed_at self.old.slots.items result }
+        ensures turns { KeepsTurns self.old self.new }
     {
         let oldest = least_active(self.slots.as_slice());
         self.close(world, oldest);
@@ -107,7 +114,8 @@ impl StreamTable {
 
     /// Puts a connection at an index. One that is there is closed.
     pub(crate) fn put(&mut self, index: usize, stream: Stream)
-        ensures { self.new.slots.items ≡ slice_set self.old.slots.items index (Some stream) }
+        ensures put { self.new.slots.items ≡ slice_set self.old.slots.items index (Some stream) }
+        ensures turns { KeepsTurns self.old self.new }
     {
         if index < self.slots.len() {
             self.slots[index] = Some(stream);
@@ -119,6 +127,7 @@ impl StreamTable {
         ensures world { W.performs world.old (events.Closed index) world.new }
         ensures closed { self.new.slots.items ≡ closed_at self.old.slots.items index }
         ensures first { self.new.first ≡ self.old.first }
+        ensures turns { KeepsTurns self.old self.new }
     {
         world.close(index);
         if index < self.slots.len() {
@@ -128,7 +137,10 @@ impl StreamTable {
 
     /// Takes note of what the system says that a connection is ready for. There may be no such connection any more.
     pub(crate) fn note(&mut self, index: usize, is_readable: bool, is_writable: bool)
-        ensures { AreKept self.old.slots.items self.new.slots.items }
+        ensures kept { AreKept self.old.slots.items self.new.slots.items }
+        ensures noted { self.new.slots.items
+            ≡ noted_at self.old.slots.items index is_readable is_writable }
+        ensures turns { KeepsTurns self.old self.new }
     {
         if index < self.slots.len() {
             if let Some(stream) = &mut self.slots[index] {
@@ -152,6 +164,11 @@ impl StreamTable {
             × ((0 < length self.old.slots.items → 0 < turns)
             × (self.new.first ≡ first_after turns (length self.old.slots.items)
             self.old.first))) }
+        ensures share { OnOk result ((turns : ℕ)
+            × ((self.new.first ≡ first_after turns (length self.old.slots.items) self.old.first)
+            × Traces W.performs H.steps world.old handler.old world.new handler.new
+            (HasShare turns (length self.old.slots.items)))) }
+        ensures capacity { self.new.capacity ≡ self.old.capacity }
     {
         let mut now = world.now()?;
         let end = now.saturating_add(MAX_TURN);
@@ -182,6 +199,17 @@ impl StreamTable {
         ensures first { self.new.first
             ≡ next_place (length self.old.slots.items) self.old.first + 1 }
         ensures count { length self.new.slots.items ≡ length self.old.slots.items }
+        ensures over { result ≡ Ok true → (end ≤ now.new)
+            × Traces W.performs H.steps world.old handler.old world.new handler.new
+            (EndsWith (At (events.Clocked (Some now.new)))) }
+        ensures goes_on { result ≡ Ok false
+            → IsIdleAt now.old (slice_get self.old.slots.items
+            (next_place (length self.old.slots.items) self.old.first)) ⊎ (now.new < end) }
+        ensures others { (other : ℕ)
+            → other ≢ next_place (length self.old.slots.items) self.old.first
+            → slice_get self.new.slots.items other ≡ slice_get self.old.slots.items other }
+        ensures transfers { result ≡ Ok true → transfers.new ≡ transfers_of self.new.slots.items }
+        ensures capacity { self.new.capacity ≡ self.old.capacity }
     {
         let is_busy = *transfers >= MAX_TRANSFERS;
         if !self.go_on_next(world, handler, buffer, now, is_busy)? {
@@ -211,6 +239,19 @@ impl StreamTable {
             (next_place (length self.old.slots.items) self.old.first)) }
         ensures gone_on { result ≡ Ok true → HasGoneOn now.new (slice_get self.new.slots.items
             (next_place (length self.old.slots.items) self.old.first)) }
+        ensures active { IsAsActive (slice_get self.old.slots.items
+            (next_place (length self.old.slots.items) self.old.first))
+            (slice_get self.new.slots.items
+            (next_place (length self.old.slots.items) self.old.first))
+            ⊎ Traces W.performs H.steps world.old handler.old world.new handler.new
+            (λ acts. 0 < moved_in acts) }
+        ensures others { (other : ℕ)
+            → other ≢ next_place (length self.old.slots.items) self.old.first
+            → slice_get self.new.slots.items other ≡ slice_get self.old.slots.items other }
+        ensures stays { result ≡ Ok false → self.new.slots.items ≡ self.old.slots.items }
+        ensures still { result ≡ Ok false
+            → (world.new ≡ world.old) × ((handler.new ≡ handler.old) × (now.new ≡ now.old)) }
+        ensures capacity { self.new.capacity ≡ self.old.capacity }
     {
         if self.first >= self.slots.len() {
             self.first = 0;
@@ -239,6 +280,16 @@ impl StreamTable {
             → IsIdleAt now.old (slice_get self.old.slots.items index) }
         ensures gone_on { result ≡ Ok true
             → HasGoneOn now.new (slice_get self.new.slots.items index) }
+        ensures active { IsAsActive (slice_get self.old.slots.items index)
+            (slice_get self.new.slots.items index)
+            ⊎ Traces W.performs H.steps world.old handler.old world.new handler.new
+            (λ acts. 0 < moved_in acts) }
+        ensures others { (other : ℕ) → other ≢ index
+            → slice_get self.new.slots.items other ≡ slice_get self.old.slots.items other }
+        ensures stays { result ≡ Ok false → self.new.slots.items ≡ self.old.slots.items }
+        ensures still { result ≡ Ok false
+            → (world.new ≡ world.old) × ((handler.new ≡ handler.old) × (now.new ≡ now.old)) }
+        ensures capacity { self.new.capacity ≡ self.old.capacity }
     {
         if index >= self.slots.len() {
             return Ok(false);

@@ -3,6 +3,7 @@ use Rattle.dns_sockets.specs.Notices.{sooner}
 use Rattle.dns_sockets.specs.Trace.{IsQuiet}
 use Rattle.dns_sockets.specs.World.{Clocked, Waited, clock_event}
 use Rattle.dns_sockets.proofs.ServedLaws.{clock_is_quiet}
+use Rattle.dns_sockets.proofs.ShareLaws.{always_ok}
 use Rattle.dns_sockets.proofs.TraceLaws.{performs_all, performs_one}
 use Rattle.dns_sockets.proofs.service.Service.wait.Goals as goal
 
@@ -45,3 +46,13 @@ returns-clause-until g c = record {
     ),
   );
 }
+
+pub returns-then-deadline-clause-waited : goal.returns-then-deadline-clause-waited
+returns-then-deadline-clause-waited g c = always_ok c.wait.result _ (record { events = Waited None ∷ []; led = (c.wait.new.self, (c.wait.ensures, refl)); holds = ([], None, refl) })
+
+pub returns-clause-waited : goal.returns-clause-waited
+returns-clause-waited g c = always_ok c.wait-2.result _ (record {
+  events = Clocked (Some c.in_ok-now.now) ∷ Waited (Some c.saturating_sub.result) ∷ [];
+  led = (c.now.new.self, (c.in_ok-now.ensures, (c.wait-2.new.self, (c.wait-2.ensures, refl))));
+  holds = (Clocked (Some c.in_ok-now.now) ∷ [], Some c.saturating_sub.result, refl);
+})

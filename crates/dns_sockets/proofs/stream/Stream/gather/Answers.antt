@@ -8,5 +8,5 @@ loop-request-preserved g c =
     record {
       taken = gathered_more _ _ _ _ _ _ _ c.loop-request.invariant.taken c.in_ok-push.ensures.items c.in_ok-bytes.ensures.items
           (first_of_next c.loop-request.self.connection _ c.in-Some.ensures) (ap (λ s. s.input) c.in_ok-complete.ensures.ok);
-      kept = record { peer = kept.peer; held = kept.held; output = kept.output; is_closing = kept.is_closing };
+      kept = record { peer = kept.peer; held = kept.held; output = kept.output; is_closing = kept.is_closing; active = kept.active };
     }

@@ -8,4 +8,5 @@ abbrev pub invariant-loop-reply : goal.invariant-loop-reply
 invariant-loop-reply l = record {
   same : connection_of l.self ≡ connection_of l.fn.self;
   goes_on : ends l.released ≡ false;
+  active : l.self.last_activity ≡ l.fn.self.last_activity;
 }
