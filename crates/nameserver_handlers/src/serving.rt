@@ -1,6 +1,6 @@
 //! Requests that arrive together are served, and answered without a fault.
 
-ghost use Rattle.std.specs.Prelude.{◌≡◌, [], ◌∷◌, IfOk, OnErr, OnOk, List, Some, length, map, option_map};
+ghost use Rattle.std.specs.Prelude.{◌≡◌, [], ◌∷◌, IfOk, OnErr, OnOk, List, None, Some, length, map, option_map};
 ghost use Rattle.dns_durable.specs.Changes.{AreChanges, reply_bytes, reply_change};
 ghost use Rattle.dns_nameserver.specs.Answered.{reply_transport};
 ghost use Rattle.dns_nameserver.specs.Former.{has_changed};
@@ -9,6 +9,7 @@ ghost use Rattle.dns_sockets.specs.Handler.{message_bytes, request_content};
 ghost use Rattle.dns_transfers.specs.replies.Recording.{AreHistoriesOf};
 ghost use Rattle.dns_zone.specs.Rows.{ZoneContent};
 ghost use Rattle.nameserver_handlers.specs.Handling.{AnswersTogether, AreDelivered, AreIncoming, AreTerms, Follows, FollowsIf, FollowsOne, first_bytes, others_of, IsDelivered, IsSettled, IsTerms, LeavesTogether, Responded, Serves, keeping, kept_content, one_if, or_else, position_again, recorded_bytes, recorded_if};
+ghost use Rattle.nameserver_handlers.specs.RequestLog.{LogsIf};
 ghost use Rattle.nameserver_handlers.specs.Transferring.{TransferByDatagram};
 
 use crate::handler::RequestHandler;
@@ -283,7 +284,9 @@ impl<R: Host, S: TextFile, W: Write> RequestHandler<'_, R, S, W> {
         ensures { keeping self.new ≡ keeping self.old }
     {
         if has_updated {
-            self.notices
+            // Without memory or random bytes, the next update notifies them.
+            let _are_all = self
+                .notices
                 .follow(self.rt, self.server.server.zones(), now);
         }
     }
@@ -320,6 +323,12 @@ impl<R: Host, S: TextFile, W: Write> RequestHandler<'_, R, S, W> {
         ensures delivered { IfOk result (λ delivery. IsDelivered (kept_content (keeping self.old))
             self.old.settings.transfers self.old.settings.limit (request_content request.now)
             (recorded_bytes recorded) delivery) }
+        ensures log { IfOk result (λ delivery. LogsIf W.contents self.old.log
+            (request_content request.now) (record {
+              delivery = delivery;
+              line = None;
+              has_updated = recorded.has_updated;
+            }) self.new.log) }
         ensures kept { keeping self.new ≡ keeping self.old }
     {
         let Recorded { reply, has_updated } = recorded;
@@ -335,10 +344,13 @@ impl<R: Host, S: TextFile, W: Write> RequestHandler<'_, R, S, W> {
 
     /// Appends what a request led to to the log.
     pub(crate) fn append_log(&mut self, request: &Request<'_>, answered: &Answered)
-        ensures { keeping self.new ≡ keeping self.old }
+        ensures log { LogsIf W.contents self.old.log (request_content request.now) answered.now
+            self.new.log }
+        ensures kept { keeping self.new ≡ keeping self.old }
     {
         if let Some(log) = &mut self.log {
-            log.append_request(self.rt, request, answered);
+            // Without memory for the line there is none.
+            let _logged = log.append_request(self.rt, request, answered);
         }
     }
 

@@ -12,6 +12,6 @@ returns-in-Some-clause-ok g c =
       (
         subst (λ (found : Option (List ℕ)). TransferByDatagram (kept_content (keeping s)) s.settings.transfers (reply_transport c.args.request.now.transport s.settings.limit) (request_content c.args.request.now) found)
             (ap (option_map message_bytes) c.in-Some.is) c.in_ok-reply.ensures,
-        (c.plain.ensures, c.append_log.ensures),
+        (c.plain.ensures, c.append_log.ensures.kept),
       ),
     )
