@@ -119,28 +119,28 @@ known_by (Err error) old mid new before after same known = tt
 -- ---- requests that are served
 
 module _ {S : Type 0} (performs : S → Event → S → Type 0) (old : Keeping S) (rs : List RequestContent) (terms : List Terms) (mid new : Keeping S) (are : AreTerms old.settings.limit old.settings.updaters rs terms) where
-  serves_as : (replies : Option (List (Option (List ℕ)))) → IsSettled (is_none replies) mid new → Responded performs old rs terms replies mid → Serves performs old rs replies new
+  serves_as : (replies : Option (List (Option (List ℕ)))) → IsSettled performs (is_none replies) mid new → Responded performs old rs terms replies mid → Serves performs old rs replies new
   serves_as replies settled responded = record { terms = terms; mid = mid; are_terms = are; responded = responded; settled = settled }
 
-  settled_by : (refused whether : Bool) → refused ≡ whether → IsSettled refused mid new → IsSettled whether mid new
-  settled_by refused whether same settled = subst (λ (b : Bool). IsSettled b mid new) same settled
+  settled_by : (refused whether : Bool) → refused ≡ whether → IsSettled performs refused mid new → IsSettled performs whether mid new
+  settled_by refused whether same settled = subst (λ (b : Bool). IsSettled performs b mid new) same settled
 
-  pub serves_ok : (r : Result (Vec Recorded) AllocError) (refused : Bool) → refused ≡ is_err r → IsSettled refused mid new → Responded performs old rs terms (recorded_if r) mid
+  pub serves_ok : (r : Result (Vec Recorded) AllocError) (refused : Bool) → refused ≡ is_err r → IsSettled performs refused mid new → Responded performs old rs terms (recorded_if r) mid
       → IfOk r (λ recorded. Serves performs old rs (Some (map recorded_bytes recorded.items)) new)
   serves_ok (Ok recorded) refused is settled responded = serves_as (Some (map recorded_bytes recorded.items)) (settled_by refused false is settled) responded
   serves_ok (Err error) refused is settled responded = tt
 
-  pub serves_err : (r : Result (Vec Recorded) AllocError) (refused : Bool) → refused ≡ is_err r → IsSettled refused mid new → Responded performs old rs terms (recorded_if r) mid
+  pub serves_err : (r : Result (Vec Recorded) AllocError) (refused : Bool) → refused ≡ is_err r → IsSettled performs refused mid new → Responded performs old rs terms (recorded_if r) mid
       → OnErr r (LeavesTogether performs old rs new)
   serves_err (Ok recorded) refused is settled responded = tt
   serves_err (Err error) refused is settled responded = inr (None, serves_as None (settled_by refused true is settled) responded)
 
-  pub serves_one : (r : Result Recorded AllocError) (refused : Bool) → refused ≡ is_err r → IsSettled refused mid new → Responded performs old rs terms (one_if r) mid
+  pub serves_one : (r : Result Recorded AllocError) (refused : Bool) → refused ≡ is_err r → IsSettled performs refused mid new → Responded performs old rs terms (one_if r) mid
       → IfOk r (λ recorded. Serves performs old rs (Some (recorded_bytes recorded ∷ [])) new)
   serves_one (Ok recorded) refused is settled responded = serves_as (Some (recorded_bytes recorded ∷ [])) (settled_by refused false is settled) responded
   serves_one (Err error) refused is settled responded = tt
 
-  pub serves_none : (r : Result Recorded AllocError) (refused : Bool) → refused ≡ is_err r → IsSettled refused mid new → Responded performs old rs terms (one_if r) mid
+  pub serves_none : (r : Result Recorded AllocError) (refused : Bool) → refused ≡ is_err r → IsSettled performs refused mid new → Responded performs old rs terms (one_if r) mid
       → OnErr r (LeavesTogether performs old rs new)
   serves_none (Ok recorded) refused is settled responded = tt
   serves_none (Err error) refused is settled responded = inr (None, serves_as None (settled_by refused true is settled) responded)

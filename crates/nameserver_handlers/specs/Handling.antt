@@ -24,6 +24,7 @@ use Rattle.dns_sockets.specs.Handler.{RequestContent}
 use Rattle.dns_transfers.specs.replies.Recording.{AreForgotten, AreHistoriesOf}
 use Rattle.dns_transfers.specs.declared.replies.recorder.Recorder.{Recorder}
 use Rattle.dns_zone.specs.Rows.{ZoneContent}
+use Rattle.nameserver_handlers.specs.TextFile.{AsksNothing}
 use Rattle.nameserver_handlers.specs.Transferring.{Content, TransferByDatagram}
 use Rattle.nameserver_handlers.specs.declared.handler.RequestHandler.{RequestHandler}
 use Rattle.nameserver_handlers.specs.declared.settings.Settings.{Settings}
@@ -78,7 +79,12 @@ AreIncoming (r ∷ rs) (t ∷ ts) (i ∷ more) = ((i.bytes.now ≡ r.bytes) × (
 
 -- ---- the zones from before the last update
 
--- They follow an update that has changed records, or are given up for want of memory.
+-- They follow an update that has changed records.
+abbrev pub FollowsUpdate : Option Former → List ℕ → Option Former → Type 0
+FollowsUpdate None bytes new = new ≡ None
+FollowsUpdate (Some f) bytes new = (m : Message) × (ReadsMessage bytes m × (new ≡ Some (former_after f m)))
+
+-- They follow it, or are given up for want of memory.
 abbrev pub FollowsOne : Option Former → List ℕ → Option Former → Type 0
 FollowsOne None bytes new = new ≡ None
 FollowsOne (Some f) bytes new = (new ≡ None) ⊎ ((m : Message) × (ReadsMessage bytes m × (new ≡ Some (former_after f m))))
@@ -171,9 +177,10 @@ abbrev pub PositionIf : Bool → Bool → Position → Position → Type 0
 PositionIf false has_journal old new = new ≡ old
 PositionIf true has_journal old new = new ≡ position_again has_journal old
 
--- The same but for the storage, whose error was told. Where memory was refused, neither differences nor the zones from before the last
--- update are known any more, and a server without a journal takes updates again.
-pub record IsSettled {S : Type 0} (is_refused : Bool) (old new : Keeping S) : Type 0 where
+-- The same but for the error of the storage, which was told. Where memory was refused, neither differences nor the zones from before the
+-- last update are known any more, and a server without a journal takes updates again.
+pub record IsSettled {S : Type 0} (performs : S → Event → S → Type 0) (is_refused : Bool) (old new : Keeping S) : Type 0 where
+  pub storage : AsksNothing performs old.storage new.storage
   pub position : PositionIf is_refused old.settings.has_journal old.position new.position
   pub zones : new.zones ≡ old.zones
   pub settings : new.settings ≡ old.settings
@@ -188,7 +195,7 @@ pub record Serves {S : Type 0} (performs : S → Event → S → Type 0) (old : 
   pub mid : Keeping S
   pub are_terms : AreTerms old.settings.limit old.settings.updaters rs terms
   pub responded : Responded performs old rs terms replies mid
-  pub settled : IsSettled (is_none replies) mid new
+  pub settled : IsSettled performs (is_none replies) mid new
 
 -- ---- what is sent
 

@@ -22,7 +22,10 @@ new_follower secondaries zone = record {
     origin = zone.origin;
     id = 0;
     message = [];
-    notifications = record { retries = record { copies = 8; first_interval = 1000; max_interval = 60000 }; secondaries = map new_secondary secondaries };
+    notifications = record {
+      retries = record { copies = 8; first_interval = 1000; max_interval = 60000 };
+      secondaries = map new_secondary secondaries;
+    };
   };
   serial = None;
 }
@@ -36,10 +39,11 @@ new_followers (first ∷ more) zones = map (new_follower (first ∷ more)) zones
 
 -- the first SOA record of a zone, if it has one
 abbrev pub IsStart : ZoneContent → Option Record → Type 0
-IsStart zone start = (records : List Record) × ((rows_of records ≡ rows_at zone.rows zone.origin.labels SOA) × (start ≡ slice_get records 0))
+IsStart zone start =
+    (records : List Record) × ((rows_of records ≡ rows_at zone.rows zone.origin.labels SOA) × (start ≡ slice_get records 0))
 
--- The SOA record of a zone is announced to its secondaries exactly if it has another serial number than the last one that was (RFC 1996
--- section 3.11).
+-- The SOA record of a zone is announced to its secondaries exactly if it has another serial number than the last one that was
+-- (RFC 1996 section 3.11).
 abbrev pub FollowsStart : ℕ → Option Record → Follower → Follower → Type 0
 FollowsStart now None old new = new ≡ old
 FollowsStart now (Some start) old new = (id : ℕ) × ((is_new : Bool) × Follows id start now old is_new new)
@@ -54,7 +58,8 @@ FollowsZoneIf true now zone old new = FollowsZone now zone old new
 FollowsZoneIf false now zone old new = (new ≡ old) ⊎ FollowsZone now zone old new
 
 -- Each follower follows the zone at its place; or some do not, for want of memory or of random bytes.
-pub record AreFollowed (now : ℕ) (zones : List ZoneContent) (old : List Follower) (are_all : Bool) (new : List Follower) : Type 0 where
+pub record AreFollowed (now : ℕ) (zones : List ZoneContent) (old : List Follower) (are_all : Bool) (new : List Follower)
+    : Type 0 where
   pub count : length new ≡ length old
   pub each : (place : ℕ) (zone : ZoneContent) (f g : Follower) → slice_get zones place ≡ Some zone → slice_get old place ≡ Some f
       → slice_get new place ≡ Some g → FollowsZoneIf are_all now zone f g
@@ -64,7 +69,8 @@ pub record AreFollowed (now : ℕ) (zones : List ZoneContent) (old : List Follow
 
 -- no follower expects a response
 abbrev pub NoneExpects : SocketAddr → List ℕ → List Follower → Type 0
-NoneExpects from bytes fs = (place : ℕ) (f : Follower) → slice_get fs place ≡ Some f → Receives from bytes f.notifier false f.notifier
+NoneExpects from bytes fs =
+    (place : ℕ) (f : Follower) → slice_get fs place ≡ Some f → Receives from bytes f.notifier false f.notifier
 
 -- A follower expects a response: the secondary that sent it is notified no more.
 pub record IsExpected (from : SocketAddr) (bytes : List ℕ) (old new : List Follower) : Type 0 where

@@ -26,13 +26,15 @@ pub record IsEntryOf (r : RequestContent) (a : Answered) (e : LogEntry) : Type 0
   pub is_update_applied : e.is_update_applied ≡ a.has_updated
 
 -- A line is appended, unless a write fails, or one has failed before.
-pub record HasLine {W : Type 0} (contents : W → Option (List ℕ)) (old : RequestLog W) (line : List ℕ) (new : RequestLog W) : Type 0 where
+pub record HasLine {W : Type 0} (contents : W → Option (List ℕ)) (old : RequestLog W) (line : List ℕ) (new : RequestLog W)
+    : Type 0 where
   pub appended : new.has_failed ≡ false → Appends (contents old.writer) (contents new.writer) line
   pub unfailed : new.has_failed ≡ false → old.has_failed ≡ false
 
 -- The line of a request and of what it led to is appended.
 abbrev pub Logs : {W : Type 0} → (W → Option (List ℕ)) → RequestLog W → RequestContent → Answered → RequestLog W → Type 0
-Logs contents old r a new = (entry : LogEntry) × (IsEntryOf r a entry × HasLine contents old (entry_text entry ++ 10 ∷ []) new)
+Logs contents old r a new =
+    (entry : LogEntry) × (IsEntryOf r a entry × HasLine contents old (entry_text entry ++ 10 ∷ []) new)
 
 -- the same if there is a log, and memory for the line
 abbrev pub LogsIf : {W : Type 0} → (W → Option (List ℕ)) → Option (RequestLog W) → RequestContent → Answered → Option (RequestLog W) → Type 0

@@ -8,7 +8,7 @@ ghost use Rattle.dns_server.specs.Maintaining.{IsRecordableOf};
 ghost use Rattle.dns_sockets.specs.Handler.{message_bytes, request_content};
 ghost use Rattle.dns_transfers.specs.replies.Recording.{AreHistoriesOf};
 ghost use Rattle.dns_zone.specs.Rows.{ZoneContent};
-ghost use Rattle.nameserver_handlers.specs.Handling.{AnswersTogether, AreDelivered, AreIncoming, AreTerms, Follows, FollowsIf, FollowsOne, first_bytes, others_of, IsDelivered, IsSettled, IsTerms, LeavesTogether, Responded, Serves, keeping, kept_content, one_if, or_else, position_again, recorded_bytes, recorded_if};
+ghost use Rattle.nameserver_handlers.specs.Handling.{AnswersTogether, AreDelivered, AreIncoming, AreTerms, Follows, FollowsIf, FollowsOne, FollowsUpdate, first_bytes, others_of, IsDelivered, IsSettled, IsTerms, LeavesTogether, Responded, Serves, keeping, kept_content, one_if, or_else, position_again, recorded_bytes, recorded_if};
 ghost use Rattle.nameserver_handlers.specs.RequestLog.{LogsIf};
 ghost use Rattle.nameserver_handlers.specs.Transferring.{TransferByDatagram};
 
@@ -138,7 +138,7 @@ impl<R: Host, S: TextFile, W: Write> RequestHandler<'_, R, S, W> {
     /// Tells a failure of the journal, and has it looked after once all replies are sent. Where memory was refused, neither differences nor
     /// the zones from before the last update are known any more, and a server without a journal takes updates again.
     fn settle(&mut self, is_refused: bool)
-        ensures { IsSettled is_refused (keeping self.old) (keeping self.new) }
+        ensures { IsSettled S.performs is_refused (keeping self.old) (keeping self.new) }
     {
         if is_refused {
             // Updates may have been made whose changes are not known.
@@ -212,6 +212,7 @@ impl<R: Host, S: TextFile, W: Write> RequestHandler<'_, R, S, W> {
     /// Records what the request of a reply has changed.
     fn record(&mut self, request: &[u8], reply: Reply) -> Recorded
         ensures bytes { recorded_bytes result ≡ reply_bytes reply }
+        ensures updated { result.has_updated ≡ has_changed reply.change }
         ensures known { (zones after : List ZoneContent) → IsRecordableOf zones reply.change after
             → AreHistoriesOf zones self.old.recorder.histories.items
             → AreHistoriesOf after self.new.recorder.histories.items }
@@ -228,7 +229,8 @@ impl<R: Host, S: TextFile, W: Write> RequestHandler<'_, R, S, W> {
             let _recorded = self.recorder.record(change);
         }
         if has_updated {
-            follow(self.rt.alloc(), &mut self.former, request);
+            // Without memory for the update, these zones are not known any more.
+            let _followed = follow(self.rt.alloc(), &mut self.former, request);
         }
         Recorded {
             reply: bytes,
@@ -394,20 +396,24 @@ fn others_of<'g, 'b>(requests: &'g [Request<'b>]) -> &'g [Request<'b>]
 }
 
 /// Lets the zones from before the last update follow one that has changed records. Without memory they are given up.
-fn follow(alloc: Global, former: &mut Option<FormerZones>, update: &[u8])
-    ensures { FollowsOne former.old update.now former.new }
+fn follow(alloc: Global, former: &mut Option<FormerZones>, update: &[u8]) -> Result<(), AllocError>
+    ensures ok { OnOk result (FollowsUpdate former.old update.now former.new) }
+    ensures err { OnErr result (former.new ≡ None) }
+    ensures either { FollowsOne former.old update.now former.new }
 {
     decoded_messages_are_sound();
-    let has_followed = match former {
-        None => return,
+    let followed = match former {
+        None => return Ok(()),
         Some(former) => match Message::from_vec(alloc, update) {
-            Ok(update) => former.follow(alloc, &update).is_ok(),
-            Err(_) => false,
+            Ok(update) => former.follow(alloc, &update),
+            // Memory for the update was refused: it was decoded before.
+            Err(_) => Err(AllocError),
         },
     };
-    if !has_followed {
+    if followed.is_err() {
         *former = None;
     }
+    followed
 }
 
 /// Returns the reply to a request for an incremental transfer in a datagram, or else another one.
