@@ -1,14 +1,11 @@
 //! Requests that arrive together are served, and answered without a fault.
 
 ghost use Rattle.std.specs.Prelude.{◌≡◌, [], ◌∷◌, IfOk, OnErr, OnOk, List, None, Some, length, map, option_map};
-ghost use Rattle.dns_durable.specs.Changes.{AreChanges, reply_bytes, reply_change};
+ghost use Rattle.dns_durable.specs.Changes.{reply_bytes, reply_change};
 ghost use Rattle.dns_nameserver.specs.Answered.{reply_transport};
 ghost use Rattle.dns_nameserver.specs.Former.{has_changed};
-ghost use Rattle.dns_server.specs.Maintaining.{IsRecordableOf};
 ghost use Rattle.dns_sockets.specs.Handler.{message_bytes, request_content};
-ghost use Rattle.dns_transfers.specs.replies.Recording.{AreHistoriesOf};
-ghost use Rattle.dns_zone.specs.Rows.{ZoneContent};
-ghost use Rattle.nameserver_handlers.specs.Handling.{AnswersTogether, AreDelivered, AreIncoming, AreTerms, Follows, FollowsIf, FollowsOne, FollowsUpdate, first_bytes, others_of, IsDelivered, IsSettled, IsTerms, LeavesTogether, Responded, Serves, keeping, kept_content, one_if, or_else, position_again, recorded_bytes, recorded_if};
+ghost use Rattle.nameserver_handlers.specs.Handling.{AnswersTogether, AreDelivered, AreIncoming, AreTerms, Follows, FollowsIf, FollowsOne, FollowsUpdate, RecordsAll, RecordsOne, first_bytes, others_of, IsDelivered, IsSettled, IsTerms, LeavesTogether, Responded, Serves, keeping, kept_content, one_if, or_else, position_again, recorded_bytes, recorded_if};
 ghost use Rattle.nameserver_handlers.specs.RequestLog.{LogsIf};
 ghost use Rattle.nameserver_handlers.specs.Transferring.{TransferByDatagram};
 
@@ -22,7 +19,9 @@ use dns_journal::State;
 use dns_messages::Message;
 use dns_messages::laws::decoded_messages_are_sound;
 use dns_nameserver::{Answered, FormerZones, has_changed, reply_transport, updates_of};
+use dns_server::ZoneChange;
 use dns_sockets::{Milliseconds, Request};
+use dns_transfers::replies::Recorder;
 use std::alloc::{AllocError, Global};
 use std::io::Write;
 
@@ -189,10 +188,8 @@ impl<R: Host, S: TextFile, W: Write> RequestHandler<'_, R, S, W> {
     ) -> Result<Vec<Recorded>, AllocError>
         ensures bytes { IfOk result (λ recorded.
             map recorded_bytes recorded.items ≡ map reply_bytes replies.items) }
-        ensures known { (zones after : List ZoneContent)
-            → AreChanges zones (map reply_change replies.items) after
-            → OnOk result (AreHistoriesOf zones self.old.recorder.histories.items
-            → AreHistoriesOf after self.new.recorder.histories.items) }
+        ensures recorded { OnOk result (RecordsAll (map reply_change replies.items)
+            self.old.recorder.histories.items self.new.recorder.histories.items) }
         ensures former { IfOk result (λ recorded. Follows self.old.former
             (map request_content requests.now)
             (map (λ reply. has_changed (reply_change reply)) replies.items) self.new.former) }
@@ -213,9 +210,8 @@ impl<R: Host, S: TextFile, W: Write> RequestHandler<'_, R, S, W> {
     fn record(&mut self, request: &[u8], reply: Reply) -> Recorded
         ensures bytes { recorded_bytes result ≡ reply_bytes reply }
         ensures updated { result.has_updated ≡ has_changed reply.change }
-        ensures known { (zones after : List ZoneContent) → IsRecordableOf zones reply.change after
-            → AreHistoriesOf zones self.old.recorder.histories.items
-            → AreHistoriesOf after self.new.recorder.histories.items }
+        ensures recorded { RecordsOne reply.change self.old.recorder.histories.items
+            self.new.recorder.histories.items }
         ensures former { FollowsIf (has_changed reply.change) self.old.former request.now
             self.new.former }
         ensures server { self.new.server ≡ self.old.server }
@@ -224,10 +220,7 @@ impl<R: Host, S: TextFile, W: Write> RequestHandler<'_, R, S, W> {
     {
         let Reply { bytes, change } = reply;
         let has_updated = has_changed(&change);
-        if let Some(change) = change {
-            // Without memory for the difference, the history of the zone begins again.
-            let _recorded = self.recorder.record(change);
-        }
+        record_change(&mut self.recorder, change);
         if has_updated {
             // Without memory for the update, these zones are not known any more.
             let _followed = follow(self.rt.alloc(), &mut self.former, request);
@@ -393,6 +386,17 @@ fn others_of<'g, 'b>(requests: &'g [Request<'b>]) -> &'g [Request<'b>]
         [_request, others @ ..] => others,
         [] => &[],
     }
+}
+
+/// Records what a request has changed, if it has changed a zone.
+fn record_change(recorder: &mut Recorder, change: Option<ZoneChange>)
+    ensures { RecordsOne change recorder.old.histories.items recorder.new.histories.items }
+{
+    let Some(change) = change else {
+        return;
+    };
+    // Without memory for the difference, the history of the zone begins again.
+    let _recorded = recorder.record(change);
 }
 
 /// Lets the zones from before the last update follow one that has changed records. Without memory they are given up.
