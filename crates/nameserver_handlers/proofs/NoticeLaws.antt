@@ -1,15 +1,15 @@
 -- Notifications of zones, one zone after another.
-use Rattle.std.proofs.Common.{◌≡◌, ◌∙◌, ◌+◌, ◌<◌, ◌≤◌, ◌&&◌, ◌||◌, inl, inr, ℕ, zero, suc, Bool, true, false, cond, List, [], ◌∷◌, map, refl, ap, sym, subst, arith, length, set, get_or, Option, Some, None, option_map}
+use Rattle.std.proofs.Common.{◌≡◌, ◌∙◌, ◌+◌, ◌<◌, ◌≤◌, ◌&&◌, ◌||◌, inl, inr, ℕ, zero, suc, Bool, true, false, cond, List, [], ◌∷◌, map, refl, ap, sym, subst, arith, length, set, get_or, Some, None, option_map}
 use borrow.Author.Count.{below_more}
 use Rattle.std.proofs.lemmas.Iterator.Adapters.{position_from-zero}
 use Rattle.std.proofs.lemmas.List.{length-set, set-get_or}
 use Rattle.std.proofs.lemmas.List.Quantifiers.{position-Some}
 use Rattle.std.proofs.lemmas.Option.{slice_get-get_or, slice_get_within}
-use Rattle.std.specs.List.{list_any, position_from}
+use Rattle.std.specs.List.{position_from}
 use Rattle.std.specs.Prelude.{is_ok, min, position, slice_get, slice_set, Err, IfOk, Ok, OnErr, Result}
 use Rattle.std.specs.declared.alloc.AllocError.{AllocError}
 use Rattle.std.specs.declared.net.socket_addr.SocketAddr.{SocketAddr}
-use Rattle.dns_notify.specs.Notifications.{NotificationsContent, after_response, is_expected, responded}
+use Rattle.dns_notify.specs.Notifications.{after_response, is_expected}
 use Rattle.dns_notify.specs.Secondary.{is_expected_from, same_address}
 use Rattle.dns_notify.specs.declared.notifier.follower.Follower.{Follower}
 use Rattle.dns_notify.specs.declared.secondary.Secondary.{Secondary}

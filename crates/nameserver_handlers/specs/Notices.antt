@@ -1,11 +1,9 @@
 -- Notifications of secondaries (RFC 1996).
-use Rattle.std.specs.Prelude.{◌≡◌, ◌⊎◌, ◌<◌, if◌then◌else◌, find, is_some, length, map, option_map, slice_get, slice_set, Bool, true, false, List, [], ◌∷◌, ℕ, Option, Some, None}
+use Rattle.std.specs.Prelude.{◌≡◌, ◌⊎◌, if◌then◌else◌, is_some, length, map, option_map, slice_get, slice_set, Bool, true, false, List, [], ◌∷◌, ℕ, Option, Some, None}
 use Rattle.std.specs.declared.net.socket_addr.SocketAddr.{SocketAddr}
-use Rattle.dns_messages.specs.Encoding.{Encodes}
 use Rattle.dns_notify.specs.Notifications.{after_due, due_address, earlier, first_moment, new_secondary}
 use Rattle.dns_notify.specs.declared.notifier.follower.Follower.{Follower}
 use Rattle.dns_notify.specs.notifier.Follower.{Follows}
-use Rattle.dns_notify.specs.notifier.Notification.{notification}
 use Rattle.dns_notify.specs.notifier.Notifier.{Receives, with_notifications}
 use Rattle.dns_records.specs.Record.{Record}
 use Rattle.dns_records.specs.Rows.{rows_of}

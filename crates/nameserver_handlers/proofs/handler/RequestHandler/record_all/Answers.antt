@@ -1,4 +1,4 @@
-use Rattle.std.proofs.Common.{◌∙◌, List, ℕ, ap, arith, map, refl, subst, sym}
+use Rattle.std.proofs.Common.{◌∙◌, List, ℕ, arith, map, subst}
 use Rattle.std.specs.Vec.Iter.{into_iter_items}
 use Rattle.dns_durable.specs.Changes.{reply_bytes, reply_change}
 use Rattle.dns_nameserver.specs.Former.{has_changed}
