@@ -23,17 +23,18 @@ use Rattle.dns_journal.specs.Event.{Event}
 use Rattle.dns_journal.specs.Storage.{Performs}
 use Rattle.dns_journal.specs.declared.journal.Position.{Position}
 use Rattle.dns_nameserver.specs.Former.{Former, has_changed}
-use Rattle.dns_server.specs.Maintaining.{IsRecordableOf}
 use Rattle.dns_server.specs.declared.server.ZoneChange.{ZoneChange}
 use Rattle.dns_sockets.specs.Handler.{RequestContent, request_content}
 use Rattle.dns_sockets.specs.declared.handler.Request.{Request}
 use Rattle.dns_transfers.specs.declared.replies.zone_history.ZoneHistory.{ZoneHistory}
-use Rattle.dns_transfers.specs.replies.Recording.{AreHistoriesOf}
+use Rattle.dns_transfers.proofs.RecordedLaws.{known_after}
+use Rattle.dns_transfers.specs.declared.replies.recorder.Recorder.{Recorder}
+use Rattle.dns_transfers.specs.replies.Recording.{AreHistoriesOf, AreRecorded}
 use Rattle.dns_zone.specs.Rows.{ZoneContent}
 use Rattle.nameserver_handlers.specs.Transferring.{Content}
 use Rattle.nameserver_handlers.specs.declared.settings.Settings.{Settings}
 use Rattle.nameserver_handlers.specs.declared.transfers.Transfers.{Transfers}
-use Rattle.nameserver_handlers.specs.Handling.{AnswersTogether, AreDelivered, AreIncoming, AreLeft, AreServed, AreTerms, Follows, FollowsIf, IsDelivered, IsSettled, IsTerms, Keeping, KeepsHistories, LeavesTogether, Responded, Serves, ServesWith, first_bytes, kept_content, one_if, others_of, recorded_bytes, recorded_if}
+use Rattle.nameserver_handlers.specs.Handling.{AnswersTogether, AreDelivered, AreIncoming, AreLeft, AreServed, AreTerms, Follows, FollowsIf, IsDelivered, IsSettled, IsTerms, Keeping, KeepsHistories, LeavesTogether, RecordsAll, RecordsOne, Responded, Serves, ServesWith, first_bytes, kept_content, one_if, others_of, recorded_bytes, recorded_if}
 use Rattle.nameserver_handlers.specs.declared.serving.Recorded.{Recorded}
 
 terms_then : (settings : Settings) (rs : List RequestContent) (r : RequestContent) (ts : List Terms) (t : Terms) → AreTerms settings rs ts → IsTerms settings r t
@@ -86,21 +87,23 @@ module _ {S : Type 0} (performs : S → Event → S → Type 0) (old : Keeping S
   -- where replies are recorded
   pub responded_recorded : (r : Result (Vec Recorded) AllocError) (outcome : Replies) (incoming : List Incoming) → IfOk r (λ recorded. map recorded_bytes recorded.items ≡ map reply_bytes outcome.replies.items)
       → IfOk r (λ recorded. Follows old.former rs (map (λ reply. has_changed (reply_change reply)) outcome.replies.items) new.former)
-      → OnOk r (KeepsHistories old new) → AreIncoming rs terms incoming
+      → AreChanges old.zones (map reply_change outcome.replies.items) new.zones
+      → OnOk r (RecordsAll (map reply_change outcome.replies.items) old.recorder.histories.items new.recorder.histories.items) → AreIncoming rs terms incoming
       → Performs performs old.storage new.storage (Responds old.settings.policy incoming (Ok outcome) old.position new.position old.zones new.zones)
       → new.settings ≡ old.settings → new.faults ≡ old.faults → Responded performs old rs terms (recorded_if r) new
-  responded_recorded (Ok recorded) outcome incoming bytes follows known are responds settings faults = record {
+  responded_recorded (Ok recorded) outcome incoming bytes follows changes records are responds settings faults = record {
     incoming = incoming;
     outcome = outcome;
     are_incoming = are;
     serves = responds;
     replies_are = bytes;
-    histories = known;
+    changes = changes;
+    recorded = records;
     former_follows = follows;
     settings_kept = settings;
     faults_kept = faults;
   }
-  responded_recorded (Err refused) outcome incoming bytes follows known are responds settings faults =
+  responded_recorded (Err refused) outcome incoming bytes follows changes records are responds settings faults =
       record { left = inr (incoming, Ok outcome, (are, responds)); settings_kept = settings; faults_kept = faults }
 
 -- the same once a change is recorded, which leaves the server as it is
@@ -110,37 +113,55 @@ pub responded_moved : {S : Type 0} (performs : S → Event → S → Type 0) (po
 responded_moved {S} performs policy incoming old outcome mid new same done =
     subst (λ (x : DurableServer S). Performs performs old.journal.storage x.journal.storage (Responds policy incoming (Ok outcome) old.journal.position x.journal.position old.server x.server)) (sym same) done
 
--- the differences are those of the same zones
-pub known_by : {T E : Type 0} (r : Result T E) (old mid new : List ZoneContent) (before after : List ZoneHistory) → new ≡ mid
-    → OnOk r (AreHistoriesOf old before → AreHistoriesOf mid after) → OnOk r (AreHistoriesOf old before → AreHistoriesOf new after)
-known_by (Ok done) old mid new before after same known = λ first. subst (λ (z : List ZoneContent). AreHistoriesOf z after) (sym same) (known first)
-known_by (Err error) old mid new before after same known = tt
+-- a change is recorded, or the history of its zone begins again
+pub records_either : (c : ZoneChange) (old new : List ZoneHistory) (r : Result (Unit {0}) AllocError) → OnOk r (AreRecorded true c.place c.difference old new)
+    → OnErr r (AreRecorded false c.place c.difference old new) → RecordsOne (Some c) old new
+records_either c old new (Ok done) ok err = (true, ok)
+records_either c old new (Err error) ok err = (false, err)
+
+-- the differences that are kept of zones lead to their rows, if they did before
+all_known : (changes : List (Option ZoneChange)) (zones after : List ZoneContent) (old new : List ZoneHistory) → AreChanges zones changes after → RecordsAll changes old new
+    → AreHistoriesOf zones old → AreHistoriesOf after new
+all_known changes zones after old new no_change same known = subst (λ (h : List ZoneHistory). AreHistoriesOf zones h) (sym same) known
+all_known (None ∷ more) zones after old new (a_change {mid = mid} one rest) records known =
+    all_known more mid after records.0 new rest records.1.1
+    (subst (λ (z : List ZoneContent). AreHistoriesOf z records.0) (sym one) (subst (λ (h : List ZoneHistory). AreHistoriesOf zones h) (sym records.1.0) known))
+all_known (Some c ∷ more) zones after old new (a_change {mid = mid} one rest) records known =
+    all_known more mid after records.0 new rest records.1.1 (known_after records.1.0.0 c zones mid old records.0 one records.1.0.1 known)
+
+pub served_known : {S : Type 0} (performs : S → Event → S → Type 0) (old new : Keeping S) (rs : List RequestContent) (replies : List (Option (List ℕ)))
+    → Serves performs old rs (Some replies) new → KeepsHistories old new
+served_known performs old new rs replies serves = λ known.
+    subst (λ (z : List ZoneContent). AreHistoriesOf z new.recorder.histories.items) (sym serves.served.settled.zones)
+    (subst (λ (r : Recorder). AreHistoriesOf serves.served.mid.zones r.histories.items) (sym serves.served.settled.recorder)
+    (all_known (map reply_change serves.served.responded.outcome.replies.items) old.zones serves.served.mid.zones old.recorder.histories.items serves.served.mid.recorder.histories.items
+    serves.served.responded.changes serves.served.responded.recorded known))
 
 -- ---- requests that are served
 
 module _ {S : Type 0} (performs : S → Event → S → Type 0) (old : Keeping S) (rs : List RequestContent) (terms : List Terms) (mid new : Keeping S) (are : AreTerms old.settings rs terms) where
-  serves_as : (replies : Option (List (Option (List ℕ)))) → IsSettled (is_none replies) mid new → Responded performs old rs terms replies mid → Serves performs old rs replies new
+  serves_as : (replies : Option (List (Option (List ℕ)))) → IsSettled performs (is_none replies) mid new → Responded performs old rs terms replies mid → Serves performs old rs replies new
   serves_as replies settled responded = record { terms = terms; are_terms = are; served = record { mid = mid; responded = responded; settled = settled } }
 
-  settled_by : (refused whether : Bool) → refused ≡ whether → IsSettled refused mid new → IsSettled whether mid new
-  settled_by refused whether same settled = subst (λ (b : Bool). IsSettled b mid new) same settled
+  settled_by : (refused whether : Bool) → refused ≡ whether → IsSettled performs refused mid new → IsSettled performs whether mid new
+  settled_by refused whether same settled = subst (λ (b : Bool). IsSettled performs b mid new) same settled
 
-  pub serves_ok : (r : Result (Vec Recorded) AllocError) (refused : Bool) → refused ≡ is_err r → IsSettled refused mid new → Responded performs old rs terms (recorded_if r) mid
+  pub serves_ok : (r : Result (Vec Recorded) AllocError) (refused : Bool) → refused ≡ is_err r → IsSettled performs refused mid new → Responded performs old rs terms (recorded_if r) mid
       → IfOk r (λ recorded. Serves performs old rs (Some (map recorded_bytes recorded.items)) new)
   serves_ok (Ok recorded) refused is settled responded = serves_as (Some (map recorded_bytes recorded.items)) (settled_by refused false is settled) responded
   serves_ok (Err error) refused is settled responded = tt
 
-  pub serves_err : (r : Result (Vec Recorded) AllocError) (refused : Bool) → refused ≡ is_err r → IsSettled refused mid new → Responded performs old rs terms (recorded_if r) mid
+  pub serves_err : (r : Result (Vec Recorded) AllocError) (refused : Bool) → refused ≡ is_err r → IsSettled performs refused mid new → Responded performs old rs terms (recorded_if r) mid
       → OnErr r (LeavesTogether performs old rs new)
   serves_err (Ok recorded) refused is settled responded = tt
   serves_err (Err error) refused is settled responded = inr (None, serves_as None (settled_by refused true is settled) responded)
 
-  pub serves_one : (r : Result Recorded AllocError) (refused : Bool) → refused ≡ is_err r → IsSettled refused mid new → Responded performs old rs terms (one_if r) mid
+  pub serves_one : (r : Result Recorded AllocError) (refused : Bool) → refused ≡ is_err r → IsSettled performs refused mid new → Responded performs old rs terms (one_if r) mid
       → IfOk r (λ recorded. ServesWith performs old rs terms (Some (recorded_bytes recorded ∷ [])) new)
   serves_one (Ok recorded) refused is settled responded = record { mid = mid; responded = responded; settled = settled_by refused false is settled }
   serves_one (Err error) refused is settled responded = tt
 
-  pub serves_none : (r : Result Recorded AllocError) (refused : Bool) → refused ≡ is_err r → IsSettled refused mid new → Responded performs old rs terms (one_if r) mid
+  pub serves_none : (r : Result Recorded AllocError) (refused : Bool) → refused ≡ is_err r → IsSettled performs refused mid new → Responded performs old rs terms (one_if r) mid
       → OnErr r (LeavesTogether performs old rs new)
   serves_none (Ok recorded) refused is settled responded = tt
   serves_none (Err error) refused is settled responded = inr (None, serves_as None (settled_by refused true is settled) responded)
@@ -178,19 +199,15 @@ only_reply (first ∷ front) reply items is one = absurd (too_many front (sym (a
     too_many [] two = absurd (cc two)
     too_many (x ∷ more) two = absurd (cc two)
 
--- the change of the only request
-only_change : (zones after : List ZoneContent) (reply : Reply) → AreChanges zones (reply_change reply ∷ []) after → IsRecordableOf zones reply.change after
-only_change zones after reply (a_change {mid = mid} one no_change) = one
-
 -- one request is served
 module _ {S : Type 0} (performs : S → Event → S → Type 0) (old new : Keeping S) (at : S) (end : Position) (after : List ZoneContent) (r : RequestContent) (t : Terms) (incoming : List Incoming) (outcome : Replies)
     (are : AreIncoming (r ∷ []) (t ∷ []) incoming) (serves : Performs performs old.storage at (Responds old.settings.policy incoming (Ok outcome) old.position end old.zones after)) (one : length incoming ≡ 1) where
   pub one_served : (front : List Reply) (reply : Reply) (recorded : Option (List ℕ)) → outcome.replies.items ≡ front ++ reply ∷ [] → recorded ≡ reply_bytes reply
       → AreChanges old.zones (map reply_change outcome.replies.items) after
-      → ((zones after : List ZoneContent) → IsRecordableOf zones reply.change after → AreHistoriesOf zones old.recorder.histories.items → AreHistoriesOf after new.recorder.histories.items)
+      → RecordsOne (reply_change reply) old.recorder.histories.items new.recorder.histories.items
       → FollowsIf (has_changed (reply_change reply)) old.former r.bytes new.former → new.storage ≡ at → new.position ≡ end → new.zones ≡ after
       → new.settings ≡ old.settings → new.faults ≡ old.faults → AreServed performs old (r ∷ []) (t ∷ []) (recorded ∷ []) new
-  one_served front reply recorded is bytes changes known follows storage position zones settings faults = record {
+  one_served front reply recorded is bytes changes records follows storage position zones settings faults = record {
     incoming = incoming;
     outcome = outcome;
     are_incoming = are;
@@ -198,8 +215,9 @@ module _ {S : Type 0} (performs : S → Event → S → Type 0) (old new : Keepi
         (subst (λ (p : Position). Performs performs old.storage at (Responds old.settings.policy incoming (Ok outcome) old.position p old.zones new.zones)) (sym position)
         (subst (λ (z : List ZoneContent). Performs performs old.storage at (Responds old.settings.policy incoming (Ok outcome) old.position end old.zones z)) (sym zones) serves));
     replies_are = ap (λ (x : Option (List ℕ)). x ∷ []) bytes ∙ sym (ap (map reply_bytes) only);
-    histories = λ before. subst (λ (z : List ZoneContent). AreHistoriesOf z new.recorder.histories.items) (sym zones)
-        (known old.zones after (only_change old.zones after reply (subst (λ (items : List Reply). AreChanges old.zones (map reply_change items) after) only changes)) before);
+    changes = subst (λ (z : List ZoneContent). AreChanges old.zones (map reply_change outcome.replies.items) z) (sym zones) changes;
+    recorded = subst (λ (items : List Reply). RecordsAll (map reply_change items) old.recorder.histories.items new.recorder.histories.items) (sym only)
+        (new.recorder.histories.items, (records, refl));
     former_follows = subst (λ (items : List Reply). Follows old.former (r ∷ []) (map (λ reply. has_changed (reply_change reply)) items) new.former) (sym only) (new.former, (follows, refl));
     settings_kept = settings;
     faults_kept = faults;
@@ -231,17 +249,13 @@ module _ {S : Type 0} (performs : S → Event → S → Type 0) (old mid new : K
       subst (λ (k : Keeping S). AnswersTogether performs old rs ds k) (sym same) (record { replies = replies; serves = serves; delivered = delivered })
 
 -- one more change is recorded
-pub changes_more : (zones after : List ZoneContent) (items left : List Reply) (reply : Reply) → items ≡ reply ∷ left → AreChanges zones (map reply_change items) after
-    → (mid : List ZoneContent) × (IsRecordableOf zones reply.change mid × AreChanges mid (map reply_change left) after)
-changes_more zones after items left reply is changes = by (subst (λ (xs : List Reply). AreChanges zones (map reply_change xs) after) is changes)
-  where
-    by : AreChanges zones (reply_change reply ∷ map reply_change left) after → (mid : List ZoneContent) × (IsRecordableOf zones reply.change mid × AreChanges mid (map reply_change left) after)
-    by (a_change {mid = mid} one more) = (mid, (one, more))
+pub records_more : (items left : List Reply) (reply : Reply) (old mid new : List ZoneHistory) → items ≡ reply ∷ left → RecordsOne (reply_change reply) old mid
+    → RecordsAll (map reply_change left) mid new → RecordsAll (map reply_change items) old new
+records_more items left reply old mid new is one more = subst (λ (xs : List Reply). RecordsAll (map reply_change xs) old new) (sym is) (mid, (one, more))
 
--- no change leaves zones as they are
-pub changes_none : (zones after : List ZoneContent) (changes : List (Option ZoneChange)) → changes ≡ [] → AreChanges zones changes after → after ≡ zones
-changes_none zones after changes none no_change = refl
-changes_none zones after changes none (a_change one more) = absurd (cc none)
+-- no change is left
+pub records_none : (items : List Reply) (old : List ZoneHistory) → items ≡ [] → RecordsAll (map reply_change items) old old
+records_none items old none = subst (λ (xs : List Reply). RecordsAll (map reply_change xs) old old) (sym none) refl
 
 -- one more reply is recorded
 pub recorded_more : (old new : List Recorded) (one : Recorded) (items left : List Reply) (reply : Reply) (all : List (Option (List ℕ))) → new ≡ old ++ one ∷ [] → items ≡ reply ∷ left

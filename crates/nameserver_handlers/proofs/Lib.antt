@@ -4,4 +4,5 @@ pub mod EachLaws
 pub mod PolicyLaws
 pub mod ActLaws
 pub mod HistoryLaws
+pub mod NoticeLaws
 pub mod HistoryWitness

@@ -33,6 +33,7 @@ use Rattle.dns_tsig.specs.declared.verify.Verdict.TheVariants as verdicts
 use Rattle.dns_wire.specs.Encoder.{max_message_len}
 use Rattle.dns_zone.specs.declared.transport.Transport.TheVariants as transports
 use Rattle.nameserver_handlers.specs.Handling.{AnswersTogether, IsTerms, Keeping, LeavesTogether, ServesWith, kept_content}
+use Rattle.nameserver_handlers.specs.TextFile.{AsksNothing}
 use Rattle.nameserver_handlers.specs.Transferring.{TransferByDatagram, TransferIf}
 
 -- by whom a request was signed, at a time
@@ -225,14 +226,15 @@ LeavesWith performs [] old rs new = LeavesTogether performs old rs new
 LeavesWith performs (rule ∷ rules) old rs new = LeavesEach performs old rs new
 
 -- What is left once a notification is given, or there is none: the journal may be begun anew then, if there is one. Without one, the zones
--- stay, and updates are taken as before.
-pub record IsTended {S : Type 0} (old new : Keeping S) : Type 0 where
+-- stay, updates are taken as before, and nothing is asked of the storage.
+pub record IsTended {S : Type 0} (performs : S → Event → S → Type 0) (old new : Keeping S) : Type 0 where
   pub settings : new.settings ≡ old.settings
   pub faults : new.faults ≡ old.faults
   pub former : new.former ≡ old.former
   pub recorder : new.recorder ≡ old.recorder
   pub zones : old.settings.has_journal ≡ false → new.zones ≡ old.zones
   pub position : old.settings.has_journal ≡ false → new.position ≡ old.position
+  pub storage : old.settings.has_journal ≡ false → AsksNothing performs old.storage new.storage
 
 -- What the handler does. Where memory is refused, there are no replies, and updates may have been made.
 abbrev pub Steps : {S : Type 0} → (S → Event → S → Type 0) → Keeping S → HandlerEvent → Keeping S → Type 0
@@ -242,4 +244,4 @@ Steps performs old (Transferred r is_busy (Some found)) new =
     ((stopped : Bool) × (IsStopped old.faults r stopped × TransfersUnless stopped old is_busy r found)) × (new ≡ old)
 Steps performs old (Transferred r is_busy None) new = new ≡ old
 Steps performs old (Took r is_taken) new = new ≡ old
-Steps performs old (Noticed now notice) new = IsTended old new
+Steps performs old (Noticed now notice) new = IsTended performs old new

@@ -3,7 +3,7 @@ use Rattle.std.specs.Prelude.{◌≡◌, ◌⊎◌, Bool, true, false, List, [],
 use Rattle.std.specs.Global.{Vec}
 use Rattle.std.specs.declared.alloc.AllocError.{AllocError}
 use Rattle.std.specs.Net.Socket.{socket_ip}
-use Rattle.dns_durable.specs.Changes.{reply_bytes, reply_change}
+use Rattle.dns_durable.specs.Changes.{AreChanges, reply_bytes, reply_change}
 use Rattle.dns_durable.specs.Durable.{Responds}
 use Rattle.dns_durable.specs.declared.durable_server.Replies.{Replies}
 use Rattle.dns_durable.specs.declared.incoming.Incoming.{Incoming}
@@ -19,11 +19,14 @@ use Rattle.dns_messages.specs.Grammar.{ReadsMessage}
 use Rattle.dns_messages.specs.declared.message.Message.{Message}
 use Rattle.dns_nameserver.specs.Answered.{IsCoverageOf, reply_transport, updates_of}
 use Rattle.dns_nameserver.specs.Former.{Former, former_after, has_changed}
+use Rattle.dns_server.specs.declared.server.ZoneChange.{ZoneChange}
 use Rattle.dns_sockets.specs.Handler.{RequestContent}
-use Rattle.dns_transfers.specs.replies.Recording.{AreForgotten, AreHistoriesOf}
+use Rattle.dns_transfers.specs.replies.Recording.{AreForgotten, AreHistoriesOf, AreRecorded}
 use Rattle.dns_transfers.specs.declared.replies.recorder.Recorder.{Recorder}
+use Rattle.dns_transfers.specs.declared.replies.zone_history.ZoneHistory.{ZoneHistory}
 use Rattle.dns_zone.specs.Rows.{ZoneContent}
 use Rattle.nameserver_handlers.specs.Clock.{Shows}
+use Rattle.nameserver_handlers.specs.TextFile.{AsksNothing}
 use Rattle.nameserver_handlers.specs.Transferring.{Content, TransferByDatagram}
 use Rattle.nameserver_handlers.specs.declared.handler.RequestHandler.{RequestHandler}
 use Rattle.nameserver_handlers.specs.declared.settings.Settings.{Settings}
@@ -79,7 +82,12 @@ AreIncoming (r ∷ rs) (t ∷ ts) (i ∷ more) = ((i.bytes.now ≡ r.bytes) × (
 
 -- ---- the zones from before the last update
 
--- They follow an update that has changed records, or are given up for want of memory.
+-- They follow an update that has changed records.
+abbrev pub FollowsUpdate : Option Former → List ℕ → Option Former → Type 0
+FollowsUpdate None bytes new = new ≡ None
+FollowsUpdate (Some f) bytes new = (m : Message) × (ReadsMessage bytes m × (new ≡ Some (former_after f m)))
+
+-- They follow it, or are given up for want of memory.
 abbrev pub FollowsOne : Option Former → List ℕ → Option Former → Type 0
 FollowsOne None bytes new = new ≡ None
 FollowsOne (Some f) bytes new = (new ≡ None) ⊎ ((m : Message) × (ReadsMessage bytes m × (new ≡ Some (former_after f m))))
@@ -124,6 +132,16 @@ one_if (Err error) = None
 abbrev pub KeepsHistories : {S : Type 0} → Keeping S → Keeping S → Type 0
 KeepsHistories old new = AreHistoriesOf old.zones old.recorder.histories.items → AreHistoriesOf new.zones new.recorder.histories.items
 
+-- The differences that are kept after a request: that of its change is recorded, or the history of the zone begins again for want of memory.
+abbrev pub RecordsOne : Option ZoneChange → List ZoneHistory → List ZoneHistory → Type 0
+RecordsOne None old new = new ≡ old
+RecordsOne (Some c) old new = (complete : Bool) × AreRecorded complete c.place c.difference old new
+
+-- the same after requests, one after another
+abbrev pub RecordsAll : List (Option ZoneChange) → List ZoneHistory → List ZoneHistory → Type 0
+RecordsAll [] old new = new ≡ old
+RecordsAll (c ∷ more) old new = (mid : List ZoneHistory) × (RecordsOne c old mid × RecordsAll more mid new)
+
 -- What requests with their terms ask of a storage, what becomes of the zones, and what the replies are (`dns_durable`): the updates that may
 -- be made are on the disk before a reply says so. Updates that have changed records are followed by the zones from before them.
 pub record AreServed {S : Type 0} (performs : S → Event → S → Type 0) (old : Keeping S) (rs : List RequestContent) (terms : List Terms)
@@ -133,7 +151,8 @@ pub record AreServed {S : Type 0} (performs : S → Event → S → Type 0) (old
   pub are_incoming : AreIncoming rs terms incoming
   pub serves : Performs performs old.storage new.storage (Responds old.settings.policy incoming (Ok outcome) old.position new.position old.zones new.zones)
   pub replies_are : replies ≡ map reply_bytes outcome.replies.items
-  pub histories : KeepsHistories old new
+  pub changes : AreChanges old.zones (map reply_change outcome.replies.items) new.zones
+  pub recorded : RecordsAll (map reply_change outcome.replies.items) old.recorder.histories.items new.recorder.histories.items
   pub former_follows : Follows old.former rs (map (λ reply. has_changed (reply_change reply)) outcome.replies.items) new.former
   pub settings_kept : new.settings ≡ old.settings
   pub faults_kept : new.faults ≡ old.faults
@@ -172,9 +191,10 @@ abbrev pub PositionIf : Bool → Bool → Position → Position → Type 0
 PositionIf false has_journal old new = new ≡ old
 PositionIf true has_journal old new = new ≡ position_again has_journal old
 
--- The same but for the storage, whose error was told. Where memory was refused, neither differences nor the zones from before the last
--- update are known any more, and a server without a journal takes updates again.
-pub record IsSettled {S : Type 0} (is_refused : Bool) (old new : Keeping S) : Type 0 where
+-- The same but for the error of the storage, which was told. Where memory was refused, neither differences nor the zones from before the
+-- last update are known any more, and a server without a journal takes updates again.
+pub record IsSettled {S : Type 0} (performs : S → Event → S → Type 0) (is_refused : Bool) (old new : Keeping S) : Type 0 where
+  pub storage : AsksNothing performs old.storage new.storage
   pub position : PositionIf is_refused old.settings.has_journal old.position new.position
   pub zones : new.zones ≡ old.zones
   pub settings : new.settings ≡ old.settings
@@ -187,7 +207,7 @@ pub record ServesWith {S : Type 0} (performs : S → Event → S → Type 0) (ol
     (replies : Option (List (Option (List ℕ)))) (new : Keeping S) : Type 0 where
   pub mid : Keeping S
   pub responded : Responded performs old rs terms replies mid
-  pub settled : IsSettled (is_none replies) mid new
+  pub settled : IsSettled performs (is_none replies) mid new
 
 -- requests are served by their terms
 pub record Serves {S : Type 0} (performs : S → Event → S → Type 0) (old : Keeping S) (rs : List RequestContent)

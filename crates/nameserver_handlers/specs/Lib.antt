@@ -6,3 +6,6 @@ pub mod Grants
 pub mod Clock
 pub mod Keeping
 pub mod Compaction
+pub mod Notices
+pub mod RequestLog
+pub mod TextFile

@@ -84,7 +84,8 @@ impl<R: Host, S: TextFile, W: Write> Handler for RequestHandler<'_, R, S, W> {
     }
 
     fn take_response(&mut self, response: &Request<'_>) -> bool {
-        self.notices.take_response(response)
+        // Without memory, it counts as none that was expected.
+        matches!(self.notices.take_response(response), Ok(true))
     }
 
     /// While a compaction is under way, there is always more to do.
@@ -97,7 +98,11 @@ impl<R: Host, S: TextFile, W: Write> Handler for RequestHandler<'_, R, S, W> {
 
     /// Once all replies and notifications are sent, the journal is looked after, and a compaction goes on by a step.
     fn next_notice(&mut self, now: Milliseconds) -> Option<Notice> {
-        let notice = self.notices.next_notice(self.rt.alloc(), now);
+        // Without memory, a notification is lost.
+        let notice = self
+            .notices
+            .next_notice(self.rt.alloc(), now)
+            .unwrap_or(None);
         if notice.is_none() && (!self.upkeep.is_tended || self.is_compacting()) {
             self.upkeep.is_tended = true;
             self.tend_journal();

@@ -1,14 +1,15 @@
 //! Theorems about what the handler of this crate does, as functions with empty bodies.
 
-ghost use Rattle.std.specs.Prelude.{◌≡◌, ◌++◌, [], ◌∷◌, false, true, List, ℕ};
+ghost use Rattle.std.specs.Prelude.{◌≡◌, ◌++◌, [], ◌∷◌, false, true, List, Option, Some, ℕ};
 ghost use Rattle.std.specs.declared.net.socket_addr.SocketAddr.{SocketAddr};
+ghost use Rattle.dns_sockets.specs.Handler.{RequestContent};
 ghost use Rattle.dns_sockets.specs.Ledger.{Earns};
 ghost use Rattle.dns_sockets.specs.Trace.{Act, At, Leads};
 ghost use Rattle.dns_sockets.specs.World.{Sent};
 ghost use Rattle.dns_sockets.specs.declared.datagrams.WaitingReply.{WaitingReply};
 ghost use Rattle.dns_sockets.specs.schedule.Schedule.{Waiting};
 ghost use Rattle.nameserver_handlers.specs.ByRules.{Steps};
-ghost use Rattle.nameserver_handlers.specs.Handling.{keeping};
+ghost use Rattle.nameserver_handlers.specs.Handling.{Keeping, KeepsHistories, Serves, keeping};
 ghost use Rattle.nameserver_handlers.specs.History.{IsAnswer, NoneUpdates, requests_in};
 ghost use Rattle.nameserver_handlers.specs.declared.handler.RequestHandler.{RequestHandler};
 
@@ -47,4 +48,10 @@ pub fn zones_change_by_permitted_updates<D: World, R: Host, S: TextFile, W: Writ
         → old.settings.has_journal ≡ false
         → NoneUpdates old.settings (requests_in acts)
         → after.server.server ≡ old.server.server }
+{}
+
+/// After requests that were served, the differences that are kept of each zone lead to its rows, if they did before (RFC 1995 section 4).
+pub fn differences_lead_to_zones<S: TextFile>()
+    ensures { (old new : Keeping S) (rs : List RequestContent) (replies : List (Option (List ℕ)))
+        → Serves S.performs old rs (Some replies) new → KeepsHistories old new }
 {}

@@ -1,7 +1,12 @@
 //! The log of requests.
 
+ghost use Rattle.std.specs.Prelude.{◌≡◌, false, OnErr, OnOk};
+ghost use Rattle.dns_sockets.specs.Handler.{request_content};
+ghost use Rattle.nameserver_handlers.specs.RequestLog.{HasLine, Logs};
+
 use dns_nameserver::{Answered, request_entry};
 use dns_sockets::Request;
+use std::alloc::AllocError;
 use std::io::{Eprint, Write};
 
 /// A writer to which a line is written for each request, such as a file that is opened for appends.
@@ -13,7 +18,9 @@ pub struct RequestLog<W> {
 
 impl<W: Write> RequestLog<W> {
     /// Creates a log over a writer.
-    pub fn new(writer: W) -> RequestLog<W> {
+    pub fn new(writer: W) -> RequestLog<W>
+        ensures { result ≡ record { writer = writer; has_failed = false } }
+    {
         RequestLog {
             writer,
             has_failed: false,
@@ -21,7 +28,9 @@ impl<W: Write> RequestLog<W> {
     }
 
     /// Writes a line. The first failure is told on standard error, and none stops the server.
-    fn append<R: Eprint>(&mut self, rt: &R, line: &str) {
+    fn append<R: Eprint>(&mut self, rt: &R, line: &str)
+        ensures { HasLine W.contents self.old line.now self.new }
+    {
         let Err(error) = self.writer.write_all(line.as_bytes()) else {
             return;
         };
@@ -38,7 +47,11 @@ impl<W: Write> RequestLog<W> {
         rt: &R,
         request: &Request<'_>,
         answered: &Answered,
-    ) {
+    ) -> Result<(), AllocError>
+        ensures ok { OnOk result (Logs W.contents self.old (request_content request.now)
+            answered.now self.new) }
+        ensures err { OnErr result (self.new ≡ self.old) }
+    {
         let entry = request_entry(
             rt.alloc(),
             request.moment,
@@ -46,12 +59,9 @@ impl<W: Write> RequestLog<W> {
             request.transport,
             request.bytes,
             answered,
-        );
-        let Ok(entry) = entry else {
-            return;
-        };
-        if let Ok(line) = format!(in rt.alloc(); "{entry}\n") {
-            self.append(rt, line.as_str());
-        }
+        )?;
+        let line = format!(in rt.alloc(); "{entry}\n")?;
+        self.append(rt, line.as_str());
+        Ok(())
     }
 }

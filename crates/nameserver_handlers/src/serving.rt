@@ -1,14 +1,12 @@
 //! Requests that arrive together are served, and answered without a fault.
 
-ghost use Rattle.std.specs.Prelude.{◌≡◌, [], ◌∷◌, IfOk, OnErr, OnOk, List, Some, length, map, option_map};
-ghost use Rattle.dns_durable.specs.Changes.{AreChanges, reply_bytes, reply_change};
+ghost use Rattle.std.specs.Prelude.{◌≡◌, [], ◌∷◌, IfOk, OnErr, OnOk, List, None, Some, length, map, option_map};
+ghost use Rattle.dns_durable.specs.Changes.{reply_bytes, reply_change};
 ghost use Rattle.dns_nameserver.specs.Answered.{reply_transport};
 ghost use Rattle.dns_nameserver.specs.Former.{has_changed};
-ghost use Rattle.dns_server.specs.Maintaining.{IsRecordableOf};
 ghost use Rattle.dns_sockets.specs.Handler.{message_bytes, request_content};
-ghost use Rattle.dns_transfers.specs.replies.Recording.{AreHistoriesOf};
-ghost use Rattle.dns_zone.specs.Rows.{ZoneContent};
-ghost use Rattle.nameserver_handlers.specs.Handling.{AnswersTogether, AreDelivered, AreIncoming, AreTerms, Follows, FollowsIf, FollowsOne, first_bytes, others_of, IsDelivered, IsSettled, IsTerms, LeavesTogether, Responded, Serves, ServesWith, keeping, kept_content, one_if, or_else, position_again, recorded_bytes, recorded_if};
+ghost use Rattle.nameserver_handlers.specs.Handling.{AnswersTogether, AreDelivered, AreIncoming, AreTerms, Follows, FollowsIf, FollowsOne, FollowsUpdate, RecordsAll, RecordsOne, first_bytes, others_of, IsDelivered, IsSettled, IsTerms, LeavesTogether, Responded, Serves, ServesWith, keeping, kept_content, one_if, or_else, position_again, recorded_bytes, recorded_if};
+ghost use Rattle.nameserver_handlers.specs.RequestLog.{LogsIf};
 ghost use Rattle.nameserver_handlers.specs.Transferring.{TransferByDatagram};
 
 use crate::handler::RequestHandler;
@@ -21,7 +19,9 @@ use dns_journal::State;
 use dns_messages::Message;
 use dns_messages::laws::decoded_messages_are_sound;
 use dns_nameserver::{Answered, FormerZones, has_changed, reply_transport, updates_of};
+use dns_server::ZoneChange;
 use dns_sockets::{Milliseconds, Request};
+use dns_transfers::replies::Recorder;
 use std::alloc::{AllocError, Global};
 use std::io::Write;
 
@@ -142,7 +142,7 @@ impl<R: Host, S: TextFile, W: Write> RequestHandler<'_, R, S, W> {
     /// Tells a failure of the journal, and has it looked after once all replies are sent. Where memory was refused, neither differences nor
     /// the zones from before the last update are known any more, and a server without a journal takes updates again.
     fn settle(&mut self, is_refused: bool)
-        ensures { IsSettled is_refused (keeping self.old) (keeping self.new) }
+        ensures { IsSettled S.performs is_refused (keeping self.old) (keeping self.new) }
     {
         if is_refused {
             // Updates may have been made whose changes are not known.
@@ -193,10 +193,8 @@ impl<R: Host, S: TextFile, W: Write> RequestHandler<'_, R, S, W> {
     ) -> Result<Vec<Recorded>, AllocError>
         ensures bytes { IfOk result (λ recorded.
             map recorded_bytes recorded.items ≡ map reply_bytes replies.items) }
-        ensures known { (zones after : List ZoneContent)
-            → AreChanges zones (map reply_change replies.items) after
-            → OnOk result (AreHistoriesOf zones self.old.recorder.histories.items
-            → AreHistoriesOf after self.new.recorder.histories.items) }
+        ensures recorded { OnOk result (RecordsAll (map reply_change replies.items)
+            self.old.recorder.histories.items self.new.recorder.histories.items) }
         ensures former { IfOk result (λ recorded. Follows self.old.former
             (map request_content requests.now)
             (map (λ reply. has_changed (reply_change reply)) replies.items) self.new.former) }
@@ -216,9 +214,9 @@ impl<R: Host, S: TextFile, W: Write> RequestHandler<'_, R, S, W> {
     /// Records what the request of a reply has changed.
     fn record(&mut self, request: &[u8], reply: Reply) -> Recorded
         ensures bytes { recorded_bytes result ≡ reply_bytes reply }
-        ensures known { (zones after : List ZoneContent) → IsRecordableOf zones reply.change after
-            → AreHistoriesOf zones self.old.recorder.histories.items
-            → AreHistoriesOf after self.new.recorder.histories.items }
+        ensures updated { result.has_updated ≡ has_changed reply.change }
+        ensures recorded { RecordsOne reply.change self.old.recorder.histories.items
+            self.new.recorder.histories.items }
         ensures former { FollowsIf (has_changed reply.change) self.old.former request.now
             self.new.former }
         ensures server { self.new.server ≡ self.old.server }
@@ -227,12 +225,10 @@ impl<R: Host, S: TextFile, W: Write> RequestHandler<'_, R, S, W> {
     {
         let Reply { bytes, change } = reply;
         let has_updated = has_changed(&change);
-        if let Some(change) = change {
-            // Without memory for the difference, the history of the zone begins again.
-            let _recorded = self.recorder.record(change);
-        }
+        record_change(&mut self.recorder, change);
         if has_updated {
-            follow(self.rt.alloc(), &mut self.former, request);
+            // Without memory for the update, these zones are not known any more.
+            let _followed = follow(self.rt.alloc(), &mut self.former, request);
         }
         Recorded {
             reply: bytes,
@@ -288,7 +284,9 @@ impl<R: Host, S: TextFile, W: Write> RequestHandler<'_, R, S, W> {
         ensures { keeping self.new ≡ keeping self.old }
     {
         if has_updated {
-            self.notices
+            // Without memory or random bytes, the next update notifies them.
+            let _are_all = self
+                .notices
                 .follow(self.rt, self.server.server.zones(), now);
         }
     }
@@ -325,6 +323,12 @@ impl<R: Host, S: TextFile, W: Write> RequestHandler<'_, R, S, W> {
         ensures delivered { IfOk result (λ delivery. IsDelivered (kept_content (keeping self.old))
             self.old.settings.transfers self.old.settings.limit (request_content request.now)
             (recorded_bytes recorded) delivery) }
+        ensures log { IfOk result (λ delivery. LogsIf W.contents self.old.log
+            (request_content request.now) (record {
+              delivery = delivery;
+              line = None;
+              has_updated = recorded.has_updated;
+            }) self.new.log) }
         ensures kept { keeping self.new ≡ keeping self.old }
     {
         let Recorded { reply, has_updated } = recorded;
@@ -340,10 +344,13 @@ impl<R: Host, S: TextFile, W: Write> RequestHandler<'_, R, S, W> {
 
     /// Appends what a request led to to the log.
     pub(crate) fn append_log(&mut self, request: &Request<'_>, answered: &Answered)
-        ensures { keeping self.new ≡ keeping self.old }
+        ensures log { LogsIf W.contents self.old.log (request_content request.now) answered.now
+            self.new.log }
+        ensures kept { keeping self.new ≡ keeping self.old }
     {
         if let Some(log) = &mut self.log {
-            log.append_request(self.rt, request, answered);
+            // Without memory for the line there is none.
+            let _logged = log.append_request(self.rt, request, answered);
         }
     }
 
@@ -386,21 +393,36 @@ fn others_of<'g, 'b>(requests: &'g [Request<'b>]) -> &'g [Request<'b>]
     }
 }
 
+/// Records what a request has changed, if it has changed a zone.
+fn record_change(recorder: &mut Recorder, change: Option<ZoneChange>)
+    ensures { RecordsOne change recorder.old.histories.items recorder.new.histories.items }
+{
+    let Some(change) = change else {
+        return;
+    };
+    // Without memory for the difference, the history of the zone begins again.
+    let _recorded = recorder.record(change);
+}
+
 /// Lets the zones from before the last update follow one that has changed records. Without memory they are given up.
-fn follow(alloc: Global, former: &mut Option<FormerZones>, update: &[u8])
-    ensures { FollowsOne former.old update.now former.new }
+fn follow(alloc: Global, former: &mut Option<FormerZones>, update: &[u8]) -> Result<(), AllocError>
+    ensures ok { OnOk result (FollowsUpdate former.old update.now former.new) }
+    ensures err { OnErr result (former.new ≡ None) }
+    ensures either { FollowsOne former.old update.now former.new }
 {
     decoded_messages_are_sound();
-    let has_followed = match former {
-        None => return,
+    let followed = match former {
+        None => return Ok(()),
         Some(former) => match Message::from_vec(alloc, update) {
-            Ok(update) => former.follow(alloc, &update).is_ok(),
-            Err(_) => false,
+            Ok(update) => former.follow(alloc, &update),
+            // Memory for the update was refused: it was decoded before.
+            Err(_) => Err(AllocError),
         },
     };
-    if !has_followed {
+    if followed.is_err() {
         *former = None;
     }
+    followed
 }
 
 /// Returns the reply to a request for an incremental transfer in a datagram, or else another one.

@@ -168,6 +168,7 @@ fn log_first<R: AllocGlobal + Eprint, W: Write>(
         line: None,
         has_updated: false,
     };
-    log.append_request(rt, request, &answered);
+    // Without memory for the line there is none.
+    let _logged = log.append_request(rt, request, &answered);
     Ok(())
 }

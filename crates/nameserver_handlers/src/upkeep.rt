@@ -49,7 +49,7 @@ impl Upkeep {
 impl<R: Host, S: TextFile, W: Write> RequestHandler<'_, R, S, W> {
     /// Lets the zone file take the place of a journal that is long, and tells the first failure on standard error.
     pub(crate) fn tend_journal(&mut self)
-        ensures { IsTended (keeping self.old) (keeping self.new) }
+        ensures { IsTended S.performs (keeping self.old) (keeping self.new) }
     {
         if self.settings.has_journal {
             match self.compact() {
@@ -71,7 +71,7 @@ impl<R: Host, S: TextFile, W: Write> RequestHandler<'_, R, S, W> {
     /// Goes on with a compaction that was begun, or begins one if the journal is long.
     fn compact(&mut self) -> Result<Stage, Unreplaced>
         requires { self.old.settings.has_journal ≡ true }
-        ensures { IsTended (keeping self.old) (keeping self.new) }
+        ensures { IsTended S.performs (keeping self.old) (keeping self.new) }
     {
         if self.is_compacting() {
             return continue_compaction(self.rt, &mut self.server);
@@ -86,7 +86,7 @@ impl<R: Host, S: TextFile, W: Write> RequestHandler<'_, R, S, W> {
     /// Says on standard error why the journal goes on. It goes on for ever if the zone file was edited since it was read, or the zone
     /// has no text that is read as it is, and until it has grown by as much again if the new text could not be written.
     fn note_refusal(&mut self, reason: &Unreplaced)
-        ensures { IsTended (keeping self.old) (keeping self.new) }
+        ensures { IsTended S.performs (keeping self.old) (keeping self.new) }
     {
         // A failure to write to standard error can't be reported.
         match reason {
@@ -112,7 +112,7 @@ impl<R: Host, S: TextFile, W: Write> RequestHandler<'_, R, S, W> {
 
     /// Tells the first failure of the journal on standard error.
     pub(crate) fn tell_failure(&mut self)
-        ensures { IsSettled false (keeping self.old) (keeping self.new) }
+        ensures { IsSettled S.performs false (keeping self.old) (keeping self.new) }
     {
         let journal = &mut self.server.journal;
         if journal.position.state == State::Ready || self.upkeep.has_failed {

@@ -11,6 +11,6 @@ returns-in-Some-clause-ok g c =
       (
         subst (λ (stopped : Bool). TransferredUnless stopped s (request_content c.args.request.now) (Some c.in-Some.reply.items)) c.stops.ensures
             (subst (λ (found : Option (List ℕ)). TransferredUnless c.stops.result s (request_content c.args.request.now) found) (ap (option_map message_bytes) c.in-Some.is) c.in_ok-reply.ensures),
-        (c.plain.ensures, c.append_log.ensures),
+        (c.plain.ensures, c.append_log.ensures.kept),
       ),
     )

@@ -23,5 +23,5 @@ returns-clause-ok g c = record {
   edited = option_map message_bytes c.in_ok-reply-2.reply;
   edits = c.in_ok-reply-2.ensures;
   sent_is = c.by_fault.ensures;
-  new_is = c.append_log.ensures ∙ ap (λ t. record (keeping c.notify.new.self) { faults = t }) c.count.ensures;
+  new_is = c.append_log.ensures.kept ∙ ap (λ t. record (keeping c.notify.new.self) { faults = t }) c.count.ensures;
 }

@@ -18,6 +18,6 @@ unreachable-requires g c =
 pub returns : goal.returns
 returns g c =
     one_served g.S.Storage.performs (keeping c.args.self.now) (keeping c.record.new.self) c.respond_all.new.self.journal.storage c.respond_all.new.self.journal.position c.respond_all.new.self.server (request_content c.args.request.now) c.args.terms.now _ c.in_ok-responded.responded ((refl, refl), (refl, refl))
-    c.in_ok-responded.ensures.performs refl c.pop.new.self.items c.in-Some.reply _ c.in-Some.ensures.items c.record.ensures.bytes c.in_ok-responded.ensures.changes c.record.ensures.known c.record.ensures.former
+    c.in_ok-responded.ensures.performs refl c.pop.new.self.items c.in-Some.reply _ c.in-Some.ensures.items c.record.ensures.bytes c.in_ok-responded.ensures.changes c.record.ensures.recorded c.record.ensures.former
     (ap (λ server. server.journal.storage) c.record.ensures.server) (ap (λ server. server.journal.position) c.record.ensures.server) (ap (λ server. server.server) c.record.ensures.server)
     c.record.ensures.settings c.record.ensures.faults
