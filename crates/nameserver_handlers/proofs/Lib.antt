@@ -5,4 +5,5 @@ pub mod PolicyLaws
 pub mod ActLaws
 pub mod HistoryLaws
 pub mod NoticeLaws
+pub mod MalformedWitness
 pub mod HistoryWitness
