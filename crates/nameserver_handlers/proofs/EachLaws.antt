@@ -1,5 +1,5 @@
 -- Requests that are handled one after another.
-use Rattle.std.proofs.Common.{◌≡◌, ◌∙◌, ◌+◌, ◌<◌, ◌≤◌, ℕ, List, [], ◌∷◌, ◌++◌, length, map, take, drop, get_or, append_assoc, refl, sym, ap, subst, arith}
+use Rattle.std.proofs.Common.{◌≡◌, ◌∙◌, ◌+◌, ◌<◌, ◌≤◌, ℕ, List, [], ◌∷◌, ◌++◌, length, map, take, drop, get_or, append_assoc, refl, sym, ap, subst}
 use Rattle.std.proofs.lemmas.List.{map-append, take-append-drop, take_all, take_more}
 use Rattle.dns_faults.specs.declared.delivery.Delivery.{Delivery}
 use Rattle.dns_journal.specs.Event.{Event}

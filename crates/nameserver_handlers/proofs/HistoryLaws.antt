@@ -5,20 +5,16 @@ use Rattle.std.specs.declared.net.socket_addr.SocketAddr.{SocketAddr}
 use Rattle.dns_durable.proofs.AnsweringLaws.{answers_stay, front_stays}
 use Rattle.dns_durable.proofs.BatchLaws.{all_judged}
 use Rattle.dns_durable.specs.Changes.{reply_bytes}
-use Rattle.dns_durable.specs.Durable.{Responds, Takes, TakesFront}
-use Rattle.dns_durable.specs.Durable.Takes.{a_frame, no_frame}
-use Rattle.dns_durable.specs.Incoming.{AreAdmitted, IsAdmitted, change_of, changes_in, is_change}
+use Rattle.dns_durable.specs.Durable.{Responds}
+use Rattle.dns_durable.specs.Incoming.{AreAdmitted, IsAdmitted, changes_in}
 use Rattle.dns_durable.specs.Incoming.AreAdmitted.{no_request as no_incoming, a_request as an_incoming}
-use Rattle.dns_durable.specs.Reply.{AnswersAll, makes_change, zones_left}
-use Rattle.dns_durable.specs.Reply.AnswersAll.{a_request, no_request}
-use Rattle.dns_durable.specs.Rule.{step_of}
+use Rattle.dns_durable.specs.Reply.{makes_change}
 use Rattle.dns_durable.specs.declared.durable_server.Replies.{Replies}
 use Rattle.dns_durable.specs.declared.incoming.Admitted.{Admitted}
 use Rattle.dns_durable.specs.declared.incoming.Arrived.{Arrived}
 use Rattle.dns_durable.specs.declared.incoming.Arrived.TheVariants.{Request, Other}
 use Rattle.dns_durable.specs.declared.incoming.Incoming.{Incoming}
 use Rattle.dns_durable.specs.declared.incoming.Terms.{Terms}
-use Rattle.dns_durable.specs.declared.policy.Policy.{Policy}
 use Rattle.dns_faults.specs.declared.delivery.Delivery.{Delivery}
 use Rattle.dns_faults.specs.declared.rules.fault.Service.{Service}
 use Rattle.dns_faults.specs.declared.rules.fault.Service.TheVariants as services
@@ -41,10 +37,10 @@ use Rattle.dns_sockets.proofs.SentLaws.{given}
 use Rattle.dns_zone.specs.Rows.{ZoneContent}
 use Rattle.nameserver_handlers.proofs.ActLaws.{split}
 use Rattle.nameserver_handlers.proofs.RuleLaws.{service_leaves}
-use Rattle.nameserver_handlers.specs.ByRules.{AnswersBy, AnswersByRule, AnswersEach, AnswersOne, AnswersUnless, AnswersWith, ByCurrent, ByFormer, ByFormerIf, ByService, LeavesEach, LeavesWith, Steps, asks_former}
+use Rattle.nameserver_handlers.specs.ByRules.{AnswersBy, AnswersEach, AnswersOne, AnswersUnless, AnswersWith, ByCurrent, ByFormerIf, ByService, LeavesEach, LeavesWith, Steps, asks_former}
 use Rattle.dns_tsig.specs.declared.verify.Checked.{Checked}
 use Rattle.nameserver_handlers.specs.ByRules.LeavesEach.{more_left, none_left, one_left}
-use Rattle.nameserver_handlers.specs.Handling.{AnswersTogether, AreIncoming, AreLeft, AreServed, AreTerms, IsTerms, Keeping, LeavesTogether, Responded, Serves, ServesWith}
+use Rattle.nameserver_handlers.specs.Handling.{AreIncoming, AreTerms, IsTerms, Keeping, LeavesTogether, Responded, Serves, ServesWith}
 use Rattle.nameserver_handlers.specs.History.{IsAnswer, IsHandledAfter, MayUpdate, NoneUpdates, requests_in, requests_of}
 use Rattle.nameserver_handlers.specs.History.IsAnswer.{as_notification, to_request}
 use Rattle.nameserver_handlers.specs.declared.settings.Settings.{Settings}

@@ -1,5 +1,5 @@
 -- Keys and grants, one after another.
-use Rattle.std.proofs.Common.{◌≡◌, ◌≢◌, ◌∙◌, ◌<◌, true, false, Bool, ℕ, zero, suc, List, [], ◌∷◌, ◌++◌, Some, length, map, get_or, append_assoc, refl, sym, ap, subst, arith}
+use Rattle.std.proofs.Common.{◌≡◌, ◌≢◌, ◌∙◌, ◌<◌, true, false, ℕ, zero, suc, List, [], ◌∷◌, ◌++◌, Some, length, map, get_or, append_assoc, refl, sym, ap, subst, arith}
 use Rattle.std.specs.Prelude.{IfErr, Result, Ok, Err, slice_get}
 use Rattle.dns_keys.specs.File.{IsKeyFile, key_value}
 use Rattle.dns_tsig.specs.declared.key.Key.{Key}

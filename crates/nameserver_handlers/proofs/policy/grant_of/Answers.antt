@@ -1,6 +1,5 @@
-use Rattle.std.proofs.Common.{◌≡◌, ◌∙◌, List, ℕ, ap, map, option_map, sym}
+use Rattle.std.proofs.Common.{◌∙◌, ap, map, option_map, sym}
 use Rattle.dns_durable.specs.GrantText.{grant_in}
-use Rattle.nameserver_handlers.specs.Grants.{words_of}
 use Rattle.nameserver_handlers.specs.Grants.RefusesGrant.{permits_nothing, states_none}
 use Rattle.nameserver_handlers.proofs.policy.grant_of.Goals as goal
 

@@ -1,4 +1,4 @@
-use Rattle.std.proofs.Common.{◌∙◌, [], arith, ap, get_or, map, refl, sym}
+use Rattle.std.proofs.Common.{◌∙◌, [], arith, get_or, map, refl}
 use Rattle.std.specs.declared.net.socket_addr.SocketAddr.TheVariants as SocketAddr
 use Rattle.dns_faults.specs.declared.rules.fault.Transport.TheVariants as Transport
 use Rattle.dns_sockets.specs.declared.handler.Request.{Request}

@@ -1,4 +1,3 @@
-use Rattle.nameserver_handlers.specs.Handling.{keeping}
 use Rattle.nameserver_handlers.proofs.EachLaws.{answered_more, stopped_at, stopped_behind}
 use Rattle.nameserver_handlers.proofs.RuleLaws.{on_error}
 use Rattle.nameserver_handlers.proofs.handler.RequestHandler.handle_each.Goals as goal
